@@ -1,0 +1,268 @@
+//! Scripts, and what the program prints for them.
+ghost use Rattle.std.specs.Prelude.{None};
+ghost use Rattle.lsm_disk.specs.State.{Seen};
+
+use crate::top::ldb;
+use lsm_disk::{Disk, DiskError, Kind};
+use lsm_io::{ListClock, ListSessions, MemSink, MemSource};
+use lsm_memdisk::MemDisk;
+use lsm_names::Path;
+use std::process::Abort;
+use std::test::Fail;
+use std::thread::Threads;
+
+/// A disk that tells nothing: it keeps the bytes of its last file, or fails at each append.
+#[derive(Drop)]
+struct OneFile {
+    fails: bool,
+    faults: u64,
+    bytes: Vec<u8>,
+}
+
+impl Disk for OneFile {
+    ghost seen = { λ disk. record { told = None; faults = disk.faults; refusals = 0 } };
+
+    fn kind(&mut self, _path: &Path) -> Result<Option<Kind>, DiskError> {
+        Ok(None)
+    }
+
+    fn create(&mut self, _path: &Path) -> Result<(), DiskError> {
+        self.bytes.clear();
+        Ok(())
+    }
+
+    fn append(&mut self, _path: &Path, bytes: &[u8]) -> Result<(), DiskError> {
+        if self.fails {
+            self.faults = self.faults.saturating_add(1);
+            return Err(DiskError::Fault);
+        }
+        match self.bytes.extend_from_slice(bytes) {
+            Ok(()) => Ok(()),
+            Err(_) => Err(DiskError::NoMemory),
+        }
+    }
+
+    fn make_folder(&mut self, _path: &Path) -> Result<(), DiskError> {
+        Ok(())
+    }
+}
+
+// Runs a script over these objects. It gives the status and the store's disk.
+fn run<R: AllocGlobal + Threads + Sync, D: Disk + Drop>(
+    rt: &R,
+    source: &mut MemSource,
+    sink: &mut MemSink,
+    disk: D,
+) -> Result<(u8, D), Fail> {
+    let words = vec![in rt.alloc(); String::from_str(rt.alloc(), "script")?]?;
+    let done = ldb(
+        rt,
+        rt.alloc(),
+        words.as_slice(),
+        source,
+        sink,
+        disk,
+        MemDisk::new(rt.alloc(), true)?,
+        &mut ListSessions::new(Vec::new(rt.alloc()), Vec::new(rt.alloc())),
+        &mut ListClock::new(Vec::new(rt.alloc()), Vec::new(rt.alloc())),
+    );
+    Ok((done.status, done.store_disk))
+}
+
+// Checks what a script over a new disk prints, and its status.
+fn prints<R: Abort + AllocGlobal + Threads + Sync>(
+    rt: &R,
+    script: &[u8],
+    printed: &str,
+    status: u8,
+) -> Result<(), Fail> {
+    let mut source = MemSource::new(Vec::from_slice(rt.alloc(), script)?, Vec::new(rt.alloc()));
+    let mut sink = MemSink::new(rt.alloc(), Vec::new(rt.alloc()));
+    let (given, _) = run(rt, &mut source, &mut sink, MemDisk::new(rt.alloc(), true)?)?;
+    assert_eq!(rt; sink.bytes(), printed.as_bytes());
+    assert_eq!(rt; given, status);
+    Ok(())
+}
+
+const SCRIPTS: [(&str, &str, u8); 16] = [
+    ("", "", 0),
+    ("m put a 1\nm get a\n", "seq 1\nvalue 1\n", 0),
+    ("m put a 1", "seq 1\n", 0),
+    (
+        "m put a 1\nm put a 2\nm get a\n",
+        "seq 1\nseq 2\nvalue 2\n",
+        0,
+    ),
+    ("m put a 1\nm  get a\nm get a\n", "seq 1\nbad line 2\n", 2),
+    ("m put a\n", "bad line 1\n", 2),
+    (
+        "m put x: x:\nm get x:\nm get zz\n",
+        "seq 1\nvalue x:\nnone\n",
+        0,
+    ),
+    (
+        "# a remark\n\nm put x:00ff x:783a41\nm get x:00ff\n",
+        "seq 1\nvalue x:783a41\n",
+        0,
+    ),
+    (
+        "m put x:61 x:3120\nother get a\n",
+        "seq 1\nvalue x:3120\n",
+        0,
+    ),
+    ("m put a x:4A\n", "bad line 1\n", 2),
+    ("m put a x:4\n", "bad line 1\n", 2),
+    ("lettersab get a\n", "bad line 1\n", 2),
+    ("letters get a\n", "none\n", 0),
+    ("M get a\n", "bad line 1\n", 2),
+    ("m get a\r\n", "bad line 1\n", 2),
+    (" m get a\n", "bad line 1\n", 2),
+];
+
+#[test]
+fn scripts_print_their_answers(rt: HostRuntime) -> Result<(), Fail> {
+    for (script, printed, status) in SCRIPTS {
+        prints(&rt, script.as_bytes(), printed, status)?;
+    }
+    Ok(())
+}
+
+#[test]
+fn limits_are_refused_and_the_script_goes_on(rt: HostRuntime) -> Result<(), Fail> {
+    for (key, value, printed) in [
+        (65_535, 1, "seq 1\nnone\n"),
+        (65_536, 1, "refused BatchTooLarge Key 65536 65535\nnone\n"),
+        (1, 1_048_576, "seq 1\nnone\n"),
+        (
+            1,
+            1_048_577,
+            "refused BatchTooLarge Value 1048577 1048576\nnone\n",
+        ),
+        (
+            65_536,
+            1_048_577,
+            "refused BatchTooLarge Key 65536 65535\nnone\n",
+        ),
+    ] {
+        let mut script = Vec::from_slice(rt.alloc(), b"m put ")?;
+        script.append(&mut vec![in rt.alloc(); b'k'; key]?)?;
+        script.push(b' ')?;
+        script.append(&mut vec![in rt.alloc(); b'v'; value]?)?;
+        script.extend_from_slice(b"\nm get a\n")?;
+        prints(&rt, script.as_slice(), printed, 0)?;
+    }
+    Ok(())
+}
+
+#[test]
+fn a_65th_actor_is_a_bad_line(rt: HostRuntime) -> Result<(), Fail> {
+    let mut script = Vec::new(rt.alloc());
+    let mut printed = String::new(rt.alloc());
+    for first in b"abcdefgh" {
+        for second in b"abcdefgh" {
+            script.extend_from_slice(&[*first, *second])?;
+            script.extend_from_slice(b" get k\naa get k\n")?;
+            printed.push_str("none\nnone\n")?;
+        }
+    }
+    script.extend_from_slice(b"i get k\n")?;
+    printed.push_str("bad line 129\n")?;
+    prints(&rt, script.as_slice(), printed.as_str(), 2)
+}
+
+#[test]
+fn a_fault_ends_the_run(rt: HostRuntime) -> Result<(), Fail> {
+    // What the source, the sink and the disk are to fail; what is printed, and the status.
+    for (reads, writes, fails, printed, status) in [
+        (0, 0, false, "seq 1\nvalue 1\n", 0),
+        (11, 0, false, "seq 1\nread fault\n", 3),
+        (5, 0, false, "read fault\n", 3),
+        (0, 1, false, "seq", 4),
+        (0, 0, true, "fault store\n", 5),
+    ] {
+        let mut source = MemSource::new(
+            Vec::from_slice(rt.alloc(), b"m put a 1\nm get a\n")?,
+            vec![in rt.alloc(); reads]?,
+        );
+        let mut sink = MemSink::new(rt.alloc(), vec![in rt.alloc(); (writes, 3)]?);
+        let disk = OneFile {
+            fails,
+            faults: 0,
+            bytes: Vec::new(rt.alloc()),
+        };
+        let (given, _) = run(&rt, &mut source, &mut sink, disk)?;
+        assert_eq!(rt; sink.bytes(), printed.as_bytes());
+        assert_eq!(rt; given, status);
+    }
+    Ok(())
+}
+
+#[test]
+fn a_put_is_answered_and_in_the_log(rt: HostRuntime) -> Result<(), Fail> {
+    let mut source = MemSource::new(
+        Vec::from_slice(rt.alloc(), b"m put a 1\n")?,
+        Vec::new(rt.alloc()),
+    );
+    let mut sink = MemSink::new(rt.alloc(), Vec::new(rt.alloc()));
+    let disk = OneFile {
+        fails: false,
+        faults: 0,
+        bytes: Vec::new(rt.alloc()),
+    };
+    let (status, disk) = run(&rt, &mut source, &mut sink, disk)?;
+    assert_eq!(rt; status, 0);
+    assert_eq!(rt; sink.bytes(), b"seq 1\n".as_slice());
+    assert_eq!(rt; disk.bytes.len(), 24);
+    // The length and the type of the piece, the first sequence, the count, and one put of `a` and `1`.
+    assert_eq!(rt;
+        disk.bytes.as_slice().get(4..).unwrap_or_default(),
+        b"\x11\x00\x01\x01\x00\x00\x00\x00\x00\x00\x00\x01\x00\x00\x00\x01\x01a\x011".as_slice()
+    );
+    Ok(())
+}
+
+#[test]
+fn a_folder_that_is_there_is_refused(rt: HostRuntime) -> Result<(), Fail> {
+    let mut source = MemSource::new(
+        Vec::from_slice(rt.alloc(), b"m get a\n")?,
+        Vec::new(rt.alloc()),
+    );
+    let mut sink = MemSink::new(rt.alloc(), Vec::new(rt.alloc()));
+    let (first, disk) = run(&rt, &mut source, &mut sink, MemDisk::new(rt.alloc(), true)?)?;
+    let (second, _) = run(&rt, &mut source, &mut sink, disk)?;
+    assert_eq!(rt; (first, second), (0, 6));
+    assert_eq!(rt; sink.bytes(), b"none\nrefused Found db\n".as_slice());
+    Ok(())
+}
+
+#[test]
+fn words_that_are_no_command_get_the_usage_line(rt: HostRuntime) -> Result<(), Fail> {
+    for words in [
+        vec![in rt.alloc();]?,
+        vec![in rt.alloc(); "script", "more"]?,
+        vec![in rt.alloc(); "scripts"]?,
+    ] {
+        let mut given = Vec::new(rt.alloc());
+        for word in words {
+            given.push(String::from_str(rt.alloc(), word)?)?;
+        }
+        let mut sink = MemSink::new(rt.alloc(), Vec::new(rt.alloc()));
+        let done = ldb(
+            &rt,
+            rt.alloc(),
+            given.as_slice(),
+            &mut MemSource::new(Vec::new(rt.alloc()), Vec::new(rt.alloc())),
+            &mut sink,
+            MemDisk::new(rt.alloc(), true)?,
+            MemDisk::new(rt.alloc(), true)?,
+            &mut ListSessions::new(Vec::new(rt.alloc()), Vec::new(rt.alloc())),
+            &mut ListClock::new(Vec::new(rt.alloc()), Vec::new(rt.alloc())),
+        );
+        assert_eq!(rt; done.status, 1);
+        assert_eq!(rt;
+            sink.bytes(),
+            b"usage: ldb [--disk PATH] [--backups PATH] [--db DIR] COMMAND\n".as_slice()
+        );
+    }
+    Ok(())
+}

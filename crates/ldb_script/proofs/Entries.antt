@@ -1,0 +1,45 @@
+-- The entries of a sorted map as contents.
+use Rattle.std.specs.Prelude.{◌≡◌, ℕ, true, false, cond, List, [], ◌∷◌, map, Option, Some, Vec}
+use Rattle.std.proofs.Common.{refl, sym, ap, ◌∙◌}
+use Rattle.std.specs.Option.{option_map}
+use Rattle.std.specs.Ordering.{is_eq, eq_by_cmp, match_ordering}
+use Rattle.std.specs.declared.cmp.Ordering.TheVariants.{Less, Equal, Greater}
+use Rattle.std.specs.Cmp.Lexicographic.{nat_list_cmp_total}
+use Rattle.std.specs.Map.{lookup}
+use Rattle.std.specs.BTreeMap.{insert_entry}
+use Rattle.std.specs.FinMap as finite
+use Rattle.std.specs.FinMap.Entries.{by_order, find-put}
+use Rattle.lsm_rows.specs.Replay.{key_cmp}
+use Rattle.ldb_script.specs.Contents.{pair_of, contents_of}
+
+module _ {Z : Type 0} where
+  found : (key : List ℕ) (es : List (Vec ℕ Z × Vec ℕ Z)) → finite.find key_cmp key (map pair_of es) ≡ option_map (λ (v : Vec ℕ Z). v.items) (lookup (λ (k : Vec ℕ Z). is_eq (key_cmp key k.items)) es)
+  found key [] = refl
+  found key (e ∷ es) =
+      ap (cond (is_eq (key_cmp key e.0.items)) (Some e.1.items)) (found key es)
+      ∙ elim (is_eq (key_cmp key e.0.items)) as (λ b. cond b (Some e.1.items) (option_map (λ (v : Vec ℕ Z). v.items) (lookup (λ (k : Vec ℕ Z). is_eq (key_cmp key k.items)) es))
+      ≡ option_map (λ (v : Vec ℕ Z). v.items) (cond b (Some e.1) (lookup (λ (k : Vec ℕ Z). is_eq (key_cmp key k.items)) es))) [ true ↦ refl | false ↦ refl ]
+
+  -- what the contents have at a key
+  pub value_at : (es : List (Vec ℕ Z × Vec ℕ Z)) (key : List ℕ) (value : Option (Vec ℕ Z)) → value ≡ lookup (λ (k : Vec ℕ Z). is_eq (key_cmp key k.items)) es
+      → option_map (λ (v : Vec ℕ Z). v.items) value ≡ finite.get (contents_of es) key
+  value_at es key value is = ap (option_map (λ (v : Vec ℕ Z). v.items)) is ∙ sym (finite.get-from_entries nat_list_cmp_total (map pair_of es) key ∙ found key es)
+
+  put_entry : (es : List (Vec ℕ Z × Vec ℕ Z)) (k v : Vec ℕ Z) → map pair_of (insert_entry (λ (x y : Vec ℕ Z). key_cmp x.items y.items) es k v) ≡ finite.put key_cmp k.items v.items (map pair_of es)
+  put_entry [] k v = refl
+  put_entry (e ∷ es) k v =
+      elim (key_cmp k.items e.0.items) as (λ o. map pair_of (match_ordering o ((k, v) ∷ e ∷ es) ((e.0, v) ∷ es) (e ∷ insert_entry (λ (x y : Vec ℕ Z). key_cmp x.items y.items) es k v))
+      ≡ by_order o ((k.items, v.items) ∷ pair_of e ∷ map pair_of es) ((e.0.items, v.items) ∷ map pair_of es) (pair_of e ∷ finite.put key_cmp k.items v.items (map pair_of es))) [
+        | Less ↦ refl
+        | Equal ↦ refl
+        | Greater ↦ ap (λ (l : List (List ℕ × List ℕ)). pair_of e ∷ l) (put_entry es k v)
+      ]
+
+  -- one more entry sets its key's value
+  pub contents_put : (es new : List (Vec ℕ Z × Vec ℕ Z)) (k v : Vec ℕ Z) → new ≡ insert_entry (λ (x y : Vec ℕ Z). key_cmp x.items y.items) es k v → contents_of new ≡ finite.insert (contents_of es) k.items v.items
+  contents_put es new k v is =
+      ap contents_of is ∙ finite.same_map nat_list_cmp_total (finite.slice_cmp-IsAntisymmetric finite.nat_cmp-IsAntisymmetric) _ _ (λ q.
+      finite.get-from_entries nat_list_cmp_total (map pair_of (insert_entry (λ (x y : Vec ℕ Z). key_cmp x.items y.items) es k v)) q
+      ∙ ap (finite.find key_cmp q) (put_entry es k v)
+      ∙ find-put key_cmp nat_list_cmp_total q k.items v.items (map pair_of es)
+      ∙ sym (finite.get-insert nat_list_cmp_total (contents_of es) k.items v.items q ∙ ap (cond (eq_by_cmp key_cmp q k.items) (Some v.items)) (finite.get-from_entries nat_list_cmp_total (map pair_of es) q)))

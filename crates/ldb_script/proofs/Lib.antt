@@ -1,0 +1,7 @@
+pub mod Lines
+pub mod Entries
+pub mod Opened
+pub mod Logs
+pub mod Serving
+pub mod Turning
+pub mod Running

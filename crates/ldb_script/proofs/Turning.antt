@@ -1,0 +1,225 @@
+-- How a run goes on by one line, and how it ends there.
+use Rattle.std.specs.Prelude.{◌≡◌, ◌⊎◌, ℕ, ◌+◌, ◌<◌, ◌≤◌, List, [], ◌∷◌, ◌++◌, length, Option, Result, Ok, Err, ◌==◌}
+use Rattle.std.proofs.Common.{inl, inr, refl, sym, ap, subst, ◌∙◌, arith, append_assoc, append-nil, length-append}
+use Rattle.std.specs.List.{All, slice_split}
+use Rattle.std.specs.Io.KnownBytes.{Appends, Consumes, IsAtEnd}
+use Rattle.std.proofs.KnownBytes.{Appends-trans, Consumes-trans}
+use Rattle.std.proofs.lemmas.List.Elements.{All-push, All-head, All-tail}
+use Rattle.std.proofs.lemmas.List.Splits.{slice_split_at, slice_split_none, length-slice_split}
+use Rattle.lsm_io.specs.Causes.{Rose}
+use Rattle.lsm_disk.specs.State.{Story}
+use Rattle.ldb_script.specs.Script.{lines, without_empty_end}
+use Rattle.ldb_script.specs.Input.{IsInside, HasBegun, IsWhole, IsLast, IsOver as IsEnd, IsTooLong}
+use Rattle.ldb_script.specs.Plain.{Plain, Outcome, Output, Does, told, both, empty}
+use Rattle.ldb_script.specs.Stored.{Shown, Stands}
+use Rattle.ldb_script.specs.Opening.{SeenStay}
+use Rattle.ldb_script.specs.Run.{Stream, Met, now, joined, Reached, CountsStay}
+use Rattle.ldb_script.specs.Doing.{IsDone, Stops, DoneOr, Underway, IsOver, IsAtBad, IsAtFault, Ran, TurnedOr}
+use Rattle.ldb_script.specs.declared.ending.Ended.{Ended}
+use Rattle.ldb_script.specs.declared.ending.Ended.TheVariants as ended
+use Rattle.ldb_script.proofs.Opened.{rose_later}
+
+-- ---- lines and their newlines
+
+keeps_line : (line : List ℕ) (parts : List (List ℕ)) → 0 < length parts → without_empty_end (line ∷ parts) ≡ line ∷ without_empty_end parts
+keeps_line line [] some = absurd (omega arith)
+keeps_line [] (next ∷ more) some = refl
+keeps_line (b ∷ bs) (next ∷ more) some = refl
+
+lines_more : (line more : List ℕ) → IsInside line → lines (line ++ 10 ∷ more) ≡ line ∷ lines more
+unfolding lines
+lines_more line more inside =
+    ap without_empty_end (slice_split_at (λ (b : ℕ). b == 10) line 10 more inside refl)
+    ∙ keeps_line line (slice_split (λ (b : ℕ). b == 10) more) (rw (length-slice_split (λ (b : ℕ). b == 10) more) (omega arith))
+
+alone : (line : List ℕ) → 0 < length line → without_empty_end (line ∷ []) ≡ line ∷ []
+alone [] some = absurd (omega arith)
+alone (b ∷ bs) some = refl
+
+lines_last : (line : List ℕ) → 0 < length line → IsInside line → lines line ≡ line ∷ []
+unfolding lines
+lines_last line some inside = ap without_empty_end (slice_split_none (λ (b : ℕ). b == 10) line inside) ∙ alone line some
+
+lines_none : lines [] ≡ []
+unfolding lines
+lines_none = refl
+
+joined_more : (line : List ℕ) (done : List (List ℕ)) → joined (line ∷ done) ≡ (line ++ 10 ∷ []) ++ joined done
+unfolding joined
+joined_more line done = refl
+
+pub joined_none : joined [] ≡ []
+unfolding joined
+joined_none = refl
+
+joined_push : (done : List (List ℕ)) (line : List ℕ) → joined (done ++ line ∷ []) ≡ joined done ++ (line ++ 10 ∷ [])
+joined_push [] line = joined_more line [] ∙ ap (λ (r : List ℕ). (line ++ 10 ∷ []) ++ r) joined_none ∙ append-nil (line ++ 10 ∷ []) ∙ ap (λ (r : List ℕ). r ++ (line ++ 10 ∷ [])) (sym joined_none)
+joined_push (first ∷ done) line =
+    joined_more first (done ++ line ∷ []) ∙ ap (λ (r : List ℕ). (first ++ 10 ∷ []) ++ r) (joined_push done line)
+    ∙ sym (append_assoc (first ++ 10 ∷ []) (joined done) (line ++ 10 ∷ [])) ∙ ap (λ (r : List ℕ). r ++ (line ++ 10 ∷ [])) (sym (joined_more first done))
+
+-- whole lines are the lines of their text, whatever follows
+lines_joined : (done : List (List ℕ)) (rest : List ℕ) → All IsInside done → lines (joined done ++ rest) ≡ done ++ lines rest
+lines_joined [] rest inside = ap (λ (j : List ℕ). lines (j ++ rest)) joined_none
+lines_joined (line ∷ done) rest inside =
+    ap (λ (j : List ℕ). lines (j ++ rest)) (joined_more line done)
+    ∙ ap lines (append_assoc (line ++ 10 ∷ []) (joined done) rest ∙ append_assoc line (10 ∷ []) (joined done ++ rest))
+    ∙ lines_more line (joined done ++ rest) (All-head IsInside line done inside)
+    ∙ ap (λ (ls : List (List ℕ)). line ∷ ls) (lines_joined done rest (All-tail IsInside line done inside))
+
+-- ---- the output of one line more
+
+told_nothing : (next : Outcome) → next ≡ both next (told next.after [])
+told_nothing next = λ i. record { text = sym (append-nil next.text) i; accepted = sym (append-nil next.accepted) i; after = next.after }
+
+pub output_push : (plain : Plain) (done : List (List ℕ)) (outcome : Outcome) (line : List ℕ) (next : Outcome) → Output plain done outcome → Does outcome.after line next → Output plain (done ++ line ∷ []) (both outcome next)
+unfolding Output
+output_push plain [] outcome line next is does =
+    (next, subst (λ (o : Outcome). Does o.after line next) is does, told next.after [], refl, ap (λ (o : Outcome). both o next) is ∙ told_nothing next)
+output_push plain (first ∷ done) outcome line next (step, does_first, rest, output, is) does =
+    let pushed = output_push step.after done rest line next output (subst (λ (o : Outcome). Does o.after line next) is does) in (
+      step,
+      does_first,
+      both rest next,
+      pushed,
+      ap (λ (o : Outcome). both o next) is ∙ (λ i. record { text = append_assoc step.text rest.text next.text i; accepted = append_assoc step.accepted rest.accepted next.accepted i; after = next.after }),
+    )
+
+pub output_none : Output empty [] (told empty [])
+unfolding Output
+output_none = refl
+
+pub output_same : (plain : Plain) (xs ys : List (List ℕ)) (outcome : Outcome) → xs ≡ ys → Output plain xs outcome → Output plain ys outcome
+output_same plain xs ys outcome e output = subst (λ (ls : List (List ℕ)). Output plain ls outcome) e output
+
+-- ---- a turn
+
+module _ (start : Option Story) (first : Met) (source source' sink sink' : Stream) (old new : Shown) (actors actors' : List (List ℕ)) (done : List (List ℕ)) (outcome : Outcome) (number : ℕ)
+    (under : Underway start (now first source sink old.disk) old actors done outcome) (is_number : number ≡ length done + 1)
+    (source_later : source.faults ≤ source'.faults) (sink_later : sink.faults ≤ sink'.faults) (stay : SeenStay old.disk new.disk) where
+  abbrev m : Met
+  m = now first source' sink' new.disk
+
+  pub counts : CountsStay m
+  counts = record {
+    source = omega (arith, under.counts.source, source_later);
+    sink = omega (arith, under.counts.sink, sink_later);
+    faults = omega (arith, under.counts.faults, stay.faults);
+    refusals = omega (arith, under.counts.refusals, stay.refusals);
+  }
+
+  read_on : (part : List ℕ) → Consumes source.bytes source'.bytes part → Consumes first.source_before.bytes source'.bytes (joined done ++ part)
+  read_on part read =
+      subst (λ (j : List ℕ). Consumes first.source_before.bytes source'.bytes (j ++ part)) (append-nil (joined done))
+      (Consumes-trans first.source_before.bytes source.bytes source'.bytes (joined done ++ []) part under.reached.read read)
+
+  -- the lines so far, and a part of the next one
+  pub reached : (part : List ℕ) → Consumes source.bytes source'.bytes part → Reached m done part outcome
+  reached part read = record { read = read_on part read; inside = under.reached.inside; few = under.reached.few; output = under.reached.output }
+
+  pub silent : sink' ≡ sink → Appends first.sink_before.bytes sink'.bytes outcome.text
+  silent same = subst (λ (s : Stream). Appends first.sink_before.bytes s.bytes outcome.text) (sym same) under.written
+
+  module _ (line : List ℕ) where
+    -- one more line was read and done
+    pub goes_on : number ≤ 10000000 → IsWhole source.bytes source'.bytes line → IsDone start sink sink' new actors' outcome line → TurnedOr start m new actors' done (Ok tt)
+    goes_on few whole did = (
+      line,
+      both outcome did.next,
+      record {
+        reached = record {
+          read = subst (λ (j : List ℕ). Consumes first.source_before.bytes source'.bytes j) (sym (joined_push done line) ∙ sym (append-nil (joined (done ++ line ∷ [])))) (read_on (line ++ 10 ∷ []) whole.bytes);
+          inside = All-push IsInside done line under.reached.inside whole.inside;
+          few = omega (arith, length-append done (line ∷ []), is_number, few);
+          output = output_push empty done outcome line did.next under.reached.output did.does;
+        };
+        written = Appends-trans first.sink_before.bytes sink.bytes sink'.bytes outcome.text did.next.text under.written did.took;
+        stands = did.stands;
+        named = did.named;
+        counts = counts;
+        disk = refl;
+      },
+    )
+
+    -- the line ends the run
+    pub stops : (part : List ℕ) → Consumes source.bytes source'.bytes part → (part ≡ line ++ 10 ∷ []) ⊎ ((part ≡ line) × IsAtEnd source'.bytes) → IsInside line
+        → (e : Ended) → Stops start sink sink' old new outcome line number e → Ran start m new e
+    stops part read ends inside (ended.BadLine n) h = record {
+      done = done;
+      part = part;
+      outcome = outcome;
+      reached = reached part read;
+      bad = inl (record { line = line; ends = ends; inside = inside; unknown = h.1 });
+      is_number = h.0 ∙ is_number;
+      written = silent h.2;
+    }
+    stops part read ends inside ended.WriteFault h = rose_later first.sink_before.faults sink.faults sink'.faults under.counts.sink h
+    stops part read ends inside ended.DiskFault h = rose_later first.disk_before.faults old.disk.faults new.disk.faults under.counts.faults h
+    stops part read ends inside (ended.Changed call path) h = (rose_later first.disk_before.refusals old.disk.refusals new.disk.refusals under.counts.refusals h.0, h.1)
+    stops part read ends inside ended.NoMemory h = tt
+    stops part read ends inside ended.Finished h = absurd h
+    stops part read ends inside ended.ReadFault h = absurd h
+    stops part read ends inside ended.Found h = absurd h
+
+    -- a line with its newline
+    pub turned : number ≤ 10000000 → IsWhole source.bytes source'.bytes line → (result : Result Unit Ended) → DoneOr start sink sink' old new actors' outcome line number result → TurnedOr start m new actors' done result
+    turned few whole (Ok did) h = goes_on few whole h
+    turned few whole (Err e) h = stops (line ++ 10 ∷ []) whole.bytes (inl refl) whole.inside e h
+
+    -- a line that the input's end ends
+    pub stops_last : IsLast source.bytes source'.bytes line → (e : Ended) → Stops start sink sink' old new outcome line number e → Ran start m new e
+    stops_last last e h = stops line last.begun.bytes (inr (refl, last.at_end)) last.begun.inside e h
+
+    -- the input ended the line, and all is done
+    pub ends_with : number ≤ 10000000 → IsLast source.bytes source'.bytes line → IsDone start sink sink' new actors' outcome line → IsOver start m new
+    ends_with few last did =
+        let all : lines (joined done ++ line) ≡ done ++ line ∷ [] = lines_joined done line under.reached.inside ∙ ap (λ (ls : List (List ℕ)). done ++ ls) (lines_last line last.some last.begun.inside) in
+        record {
+          bytes = joined done ++ line;
+          read = read_on line last.begun.bytes;
+          at_end = last.at_end;
+          few = omega (arith, ap length all, length-append done (line ∷ []), is_number, few);
+          outcome = both outcome did.next;
+          output = output_same empty (done ++ line ∷ []) (lines (joined done ++ line)) (both outcome did.next) (sym all) (output_push empty done outcome line did.next under.reached.output did.does);
+          written = Appends-trans first.sink_before.bytes sink.bytes sink'.bytes outcome.text did.next.text under.written did.took;
+          stands = did.stands;
+        }
+
+    -- the source failed in the line
+    pub fails : HasBegun source.bytes source'.bytes line → Rose source.faults source'.faults → sink' ≡ sink → IsAtFault m
+    fails begun rose same = record {
+      rose = rose_later first.source_before.faults source.faults source'.faults under.counts.source rose;
+      done = done;
+      part = line;
+      outcome = outcome;
+      reached = reached line begun.bytes;
+      inside = begun.inside;
+      written = silent same;
+    }
+
+    -- the line is too long
+    pub too_long : IsTooLong source.bytes source'.bytes line → sink' ≡ sink → IsAtBad m number
+    too_long long same = record {
+      done = done;
+      part = line;
+      outcome = outcome;
+      reached = reached line long.bytes;
+      bad = inr (inl (record { inside = long.inside; long = long.long }));
+      is_number = is_number;
+      written = silent same;
+    }
+
+  -- nothing is left
+  pub ends_behind : IsEnd source.bytes source'.bytes → sink' ≡ sink → new ≡ old → IsOver start m new
+  ends_behind over same kept =
+      let all : lines (joined done ++ []) ≡ done = lines_joined done [] under.reached.inside ∙ ap (λ (ls : List (List ℕ)). done ++ ls) lines_none ∙ append-nil done in
+      record {
+        bytes = joined done ++ [];
+        read = read_on [] over.bytes;
+        at_end = over.at_end;
+        few = omega (arith, ap length all, under.reached.few);
+        outcome = outcome;
+        output = output_same empty done (lines (joined done ++ [])) outcome (sym all) under.reached.output;
+        written = silent same;
+        stands = subst (λ (s : Shown). Stands start s outcome) (sym kept) under.stands;
+      }

@@ -1,0 +1,20 @@
+use Rattle.std.proofs.Common.{subst, ◌∙◌}
+use Rattle.std.specs.Io.KnownBytes.{Appends}
+use Rattle.ldb_script.specs.Run.{Stream}
+use Rattle.ldb_script.proofs.Serving.{unserved}
+use Rattle.ldb_script.proofs.script.serve.Goals as goal
+
+pub returns-in-Ok-write-clause-done : goal.returns-in-Ok-write-clause-done
+returns-in-Ok-write-clause-done g c start outcome was =
+    let a = c.in-Ok.ensures.done start outcome was in
+    record {
+      next = a.next;
+      answers = a.answers;
+      took = subst (Appends (g.K.Sink.taken c.args.sink.now) (g.K.Sink.taken c.write.new.self)) (c.as_slice.ensures ∙ a.is_text) c.in-Ok-write.ensures.bytes;
+      stands = a.stands;
+    }
+
+pub returns-clause-done : goal.returns-clause-done
+returns-clause-done g c start outcome was =
+    let sink : Stream = record { bytes = g.K.Sink.taken c.args.sink.now; faults = g.K.Sink.faults c.args.sink.now } in
+    unserved start sink sink c.args.store.now c.answer.new.store outcome c.args.command.now c.in-Err.ended (c.in-Err.ensures.done start outcome was)

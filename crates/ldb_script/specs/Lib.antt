@@ -1,0 +1,10 @@
+pub mod Words
+pub mod Script
+pub mod Input
+pub mod Contents
+pub mod Printed
+pub mod Plain
+pub mod Stored
+pub mod Opening
+pub mod Run
+pub mod Doing

@@ -1,0 +1,35 @@
+-- The lines that a script prints.
+use Rattle.std.specs.Prelude.{ℕ, List, [], ◌∷◌, ◌++◌, Option, Some, None, codes}
+use Rattle.std.specs.Fmt.{decimal}
+use Rattle.lsm_rows.specs.Limits.{Refused}
+use Rattle.lsm_rows.specs.declared.refusals.What.{What}
+use Rattle.lsm_rows.specs.declared.refusals.What.TheVariants.{Key, Value, Count, Bytes}
+use Rattle.ldb_script.specs.Words.{shown}
+
+-- a text and its newline
+abbrev pub with_newline : List ℕ → List ℕ
+with_newline text = text ++ 10 ∷ []
+
+-- a write is answered by the last sequence
+unfoldable pub sequence_line : ℕ → List ℕ
+sequence_line last = with_newline (codes "seq " ++ decimal last)
+
+-- a get is answered by the value, or by `none`
+unfoldable pub value_line : Option (List ℕ) → List ℕ
+value_line None = with_newline (codes "none")
+value_line (Some value) = with_newline (codes "value " ++ shown value)
+
+-- an enum prints as its variant's name
+abbrev pub what_name : What → List ℕ
+what_name Key = codes "Key"
+what_name Value = codes "Value"
+what_name Count = codes "Count"
+what_name Bytes = codes "Bytes"
+
+-- a batch that would pass a limit: what is too large, its size, and the limit
+unfoldable pub too_large_line : Refused → List ℕ
+too_large_line refused = codes "refused BatchTooLarge " ++ (what_name refused.what ++ (codes " " ++ (decimal refused.kept ++ (codes " " ++ with_newline (decimal refused.limit)))))
+
+-- the last line of a run that met a line outside the grammar
+unfoldable pub bad_line : ℕ → List ℕ
+bad_line number = with_newline (codes "bad line " ++ decimal number)

@@ -1,0 +1,60 @@
+//! The pairs of a store, in the order of their keys.
+ghost use Rattle.std.specs.Prelude.{◌≡◌, OnOk};
+ghost use Rattle.std.specs.Option.{option_map};
+ghost use Rattle.std.specs.FinMap as finite;
+ghost use Rattle.lsm_rows.specs.Replay.{key_cmp};
+
+use lsm_bytes::NoMemory;
+use std::alloc::Global;
+use std::collections::BTreeMap;
+use std::marker::Model;
+
+/// Pairs of keys and values. Contracts see them as a finite map.
+#[derive(Drop)]
+pub struct Pairs {
+    alloc: Global,
+    values: BTreeMap<Vec<u8>, Vec<u8>>,
+}
+
+impl Model for Pairs {
+    ghost use Rattle.lsm_rows.specs.Replay.{Contents};
+    ghost use Rattle.ldb_script.specs.Contents.{contents_of, coded_contents};
+
+    ghost Value = { Contents };
+
+    ghost coded = { coded_contents };
+
+    ghost view = { λ p. contents_of p.values.entries };
+}
+
+impl Pairs {
+    /// No pairs.
+    pub fn new(alloc: Global) -> Self
+        ensures { result ≡ finite.empty }
+    {
+        Pairs {
+            alloc,
+            values: BTreeMap::new(alloc),
+        }
+    }
+
+    /// The value of a key.
+    pub fn get(&self, key: &[u8]) -> Option<&[u8]>
+        ensures { option_map (λ value. value.now) result ≡ finite.get self.now key.now }
+    {
+        match self.values.get(key) {
+            Some(value) => Some(value.as_slice()),
+            None => None,
+        }
+    }
+
+    /// Sets a key's value.
+    pub fn put(&mut self, key: &[u8], value: &[u8]) -> Result<(), NoMemory>
+        ensures { OnOk result (self.new ≡ finite.insert self.old key.now value.now) }
+    {
+        let key = Vec::from_slice(self.alloc, key)?;
+        let value = Vec::from_slice(self.alloc, value)?;
+        self.values.insert(key, value)?;
+        Ok(())
+    }
+}

@@ -1,0 +1,16 @@
+//! Scripts: the language, what each line prints, and the run of a script over a source, a sink and a disk.
+#![tactic(auto)]
+
+mod actors;
+mod contents;
+mod ending;
+mod input;
+mod line;
+mod printing;
+mod script;
+mod store;
+mod words;
+
+pub use ending::say;
+pub use line::{Command, Line};
+pub use script::{Done, run_script};

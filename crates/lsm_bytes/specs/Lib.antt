@@ -1,0 +1,4 @@
+pub mod Checksum
+pub mod Faults
+pub mod Numbers
+pub mod Varint

@@ -1,0 +1,11 @@
+pub mod Names
+pub mod State
+pub mod Tree
+pub mod Images
+pub mod Goes
+pub mod Kept
+pub mod Viewed
+pub mod Codes
+pub mod Kinds
+pub mod Refusals
+pub mod Answers

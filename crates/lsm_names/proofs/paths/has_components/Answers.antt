@@ -1,0 +1,11 @@
+use Rattle.std.proofs.Common.{rules}
+use Rattle.std.specs.Prelude.{◌==◌}
+use Rattle.std.proofs.lemmas.Iterator.Splits.{YieldsList-from_slice_split}
+use Rattle.std.proofs.lemmas.Iterator.Search.{all_from_yields_List}
+use Rattle.lsm_names.specs.Paths.{is_component}
+use Rattle.lsm_names.proofs.paths.has_components.Goals as goal
+
+pub returns : goal.returns
+returns c = all_from_yields_List is_component _ _ _ c.all.ensures.ran
+    (YieldsList-from_slice_split _ (λ byte. byte == 47) c.args.bytes.now c.split.ensures.rest c.split.ensures.done c.split.ensures.closure (λ x b q k. search rules))
+    (λ x b q k. search rules)

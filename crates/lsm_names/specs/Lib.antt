@@ -1,0 +1,7 @@
+pub mod FileNames
+pub mod Folders
+pub mod Numbers
+pub mod Paths
+pub mod Sessions
+pub mod SharedNames
+pub mod Texts

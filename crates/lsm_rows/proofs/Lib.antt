@@ -1,0 +1,11 @@
+pub mod BatchSizes
+pub mod InternalOrder
+pub mod NewestRows
+pub mod PieceFaults
+pub mod Prefixes
+pub mod ReadBatch
+pub mod ReadHeader
+pub mod ReadNumbers
+pub mod ReadOps
+pub mod ReadSized
+pub mod ReplayedRows

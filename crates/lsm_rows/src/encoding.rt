@@ -1,0 +1,78 @@
+//! A batch's text, written.
+ghost use Rattle.std.specs.Prelude.{◌≡◌, ◌+◌, ◌≤◌, ◌<◌, ◌^◌, ◌++◌, length, IfOk, OnOk};
+ghost use Rattle.lsm_rows.specs.BatchText.{sized, op_text, batch_text};
+
+use crate::{Batch, Op};
+use lsm_bytes::{Bytes, NoMemory, push_varint};
+use std::alloc::Global;
+
+// A byte list's length, and the list.
+#[tactic(auto, unfolding(crate::specs::BatchText::sized))]
+fn push_sized(out: &mut Bytes, bytes: &[u8]) -> Result<(), NoMemory>
+    ensures { OnOk result (out.new ≡ out.old ++ sized bytes.now) }
+{
+    push_varint(out, bytes.len() as u64)?;
+    out.extend_from_slice(bytes)?;
+    Ok(())
+}
+
+// One operation's kind byte, its key, and a put's value.
+#[tactic(auto, unfolding(crate::specs::BatchText::op_text))]
+fn push_op(out: &mut Bytes, op: &Op) -> Result<(), NoMemory>
+    ensures { OnOk result (out.new ≡ out.old ++ op_text op.now) }
+{
+    match op {
+        Op::Put { key, value } => {
+            out.push(1)?;
+            push_sized(out, key.as_slice())?;
+            push_sized(out, value.as_slice())?;
+        }
+        Op::Delete { key } => {
+            out.push(0)?;
+            push_sized(out, key.as_slice())?;
+        }
+    }
+    Ok(())
+}
+
+/// The batch's text, where its operations have the sequences from `first` on. The last of them is at most
+/// 2^56 - 1, and a batch with no operations has no text.
+#[tactic(auto, unfolding(crate::specs::BatchText::batch_text))]
+pub fn encode_batch(alloc: Global, first: u64, batch: &Batch) -> Result<Bytes, NoMemory>
+    requires some { 1 ≤ length batch.now }
+    requires last { first + length batch.now ≤ 2 ^ 56 }
+    ensures { IfOk result (λ text. text ≡ batch_text first batch.now) }
+{
+    let mut text = Bytes::new(alloc);
+    text.reserve(batch.text_len())?;
+    text.extend_from_slice(&first.to_le_bytes())?;
+    text.extend_from_slice(&(batch.len() as u32).to_le_bytes())?;
+    for op in batch.ops() {
+        push_op(&mut text, op)?;
+    }
+    Ok(text)
+}
+
+#[cfg(test)]
+mod tests {
+    use super::*;
+    use crate::BatchRefusal;
+
+    #[test]
+    fn a_put_and_a_delete_have_this_text(rt: HostRuntime) -> Result<(), BatchRefusal> {
+        let mut batch = Batch::new(rt.alloc());
+        batch.put(b"a", b"1")?;
+        let one = encode_batch(rt.alloc(), 1, &batch)?;
+        assert_eq!(rt;
+            one.as_slice(),
+            b"\x01\0\0\0\0\0\0\0\x01\0\0\0\x01\x01a\x011".as_slice()
+        );
+        batch.delete(b"bc")?;
+        let two = encode_batch(rt.alloc(), 0x0102_0304, &batch)?;
+        assert_eq!(rt;
+            two.as_slice(),
+            b"\x04\x03\x02\x01\0\0\0\0\x02\0\0\0\x01\x01a\x011\0\x02bc".as_slice()
+        );
+        Ok(())
+    }
+}
