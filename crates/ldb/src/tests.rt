@@ -1,59 +1,20 @@
 //! Scripts, and what the program prints for them.
-ghost use Rattle.std.specs.Prelude.{None};
-ghost use Rattle.lsm_disk.specs.State.{Seen};
-
 use crate::top::ldb;
-use lsm_disk::{Disk, DiskError, Kind};
+use lsm_disk::{Disk, View};
 use lsm_io::{ListClock, ListSessions, MemSink, MemSource};
-use lsm_memdisk::MemDisk;
+use lsm_memdisk::{Effect, MemDisk};
 use lsm_names::Path;
 use std::process::Abort;
 use std::test::Fail;
 use std::thread::Threads;
 
-/// A disk that tells nothing: it keeps the bytes of its last file, or fails at each append.
-#[derive(Drop)]
-struct OneFile {
-    fails: bool,
-    faults: u64,
-    bytes: Vec<u8>,
-}
-
-impl Disk for OneFile {
-    ghost seen = { λ disk. record { told = None; faults = disk.faults; refusals = 0 } };
-
-    fn kind(&mut self, _path: &Path) -> Result<Option<Kind>, DiskError> {
-        Ok(None)
-    }
-
-    fn create(&mut self, _path: &Path) -> Result<(), DiskError> {
-        self.bytes.clear();
-        Ok(())
-    }
-
-    fn append(&mut self, _path: &Path, bytes: &[u8]) -> Result<(), DiskError> {
-        if self.fails {
-            self.faults = self.faults.saturating_add(1);
-            return Err(DiskError::Fault);
-        }
-        match self.bytes.extend_from_slice(bytes) {
-            Ok(()) => Ok(()),
-            Err(_) => Err(DiskError::NoMemory),
-        }
-    }
-
-    fn make_folder(&mut self, _path: &Path) -> Result<(), DiskError> {
-        Ok(())
-    }
-}
-
 // Runs a script over these objects. It gives the status and the store's disk.
-fn run<R: AllocGlobal + Threads + Sync, D: Disk + Drop>(
+fn run<R: AllocGlobal + Threads + Sync>(
     rt: &R,
     source: &mut MemSource,
     sink: &mut MemSink,
-    disk: D,
-) -> Result<(u8, D), Fail> {
+    disk: MemDisk,
+) -> Result<(u8, MemDisk), Fail> {
     let words = vec![in rt.alloc(); String::from_str(rt.alloc(), "script")?]?;
     let done = ldb(
         rt,
@@ -185,11 +146,11 @@ fn a_fault_ends_the_run(rt: HostRuntime) -> Result<(), Fail> {
             vec![in rt.alloc(); reads]?,
         );
         let mut sink = MemSink::new(rt.alloc(), vec![in rt.alloc(); (writes, 3)]?);
-        let disk = OneFile {
-            fails,
-            faults: 0,
-            bytes: Vec::new(rt.alloc()),
-        };
+        let mut disk = MemDisk::new(rt.alloc(), true)?;
+        if fails {
+            // The first append, behind a look, a folder and a file.
+            disk.fail_at(4, Effect::Nothing)?;
+        }
         let (given, _) = run(&rt, &mut source, &mut sink, disk)?;
         assert_eq!(rt; sink.bytes(), printed.as_bytes());
         assert_eq!(rt; given, status);
@@ -204,20 +165,20 @@ fn a_put_is_answered_and_in_the_log(rt: HostRuntime) -> Result<(), Fail> {
         Vec::new(rt.alloc()),
     );
     let mut sink = MemSink::new(rt.alloc(), Vec::new(rt.alloc()));
-    let disk = OneFile {
-        fails: false,
-        faults: 0,
-        bytes: Vec::new(rt.alloc()),
-    };
-    let (status, disk) = run(&rt, &mut source, &mut sink, disk)?;
+    let (status, mut disk) = run(&rt, &mut source, &mut sink, MemDisk::new(rt.alloc(), true)?)?;
     assert_eq!(rt; status, 0);
     assert_eq!(rt; sink.bytes(), b"seq 1\n".as_slice());
-    assert_eq!(rt; disk.bytes.len(), 24);
-    // The length and the type of the piece, the first sequence, the count, and one put of `a` and `1`.
+    let log = Path::parse(b"db/000002.log")?;
+    assert_eq!(rt; disk.size(&log), Ok(24));
+    let mut view = disk.open(&log, 24).expect(&rt, "a view");
+    // The length and the kind of the piece, the first sequence, the count, and a put of `a` and `1`.
+    let mut bytes = [0u8; 20];
+    assert_eq!(rt; view.read_at(4, &mut bytes), Ok(()));
     assert_eq!(rt;
-        disk.bytes.as_slice().get(4..).unwrap_or_default(),
-        b"\x11\x00\x01\x01\x00\x00\x00\x00\x00\x00\x00\x01\x00\x00\x00\x01\x01a\x011".as_slice()
+        bytes,
+        *b"\x11\0\x01\x01\0\0\0\0\0\0\0\x01\0\0\0\x01\x01a\x011"
     );
+    disk.close(view);
     Ok(())
 }
 

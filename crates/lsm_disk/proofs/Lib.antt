@@ -5,4 +5,6 @@ pub mod Images
 pub mod Kept
 pub mod Runs
 pub mod Now
+pub mod Moves
 pub mod Tree
+pub mod Lawful

@@ -1,10 +1,10 @@
 -- What a disk holds now, after each kind of change.
-use Rattle.std.specs.Prelude.{◌≡◌, ◌≢◌, ℕ, zero, suc, Bool, true, false, cond, List, [], ◌∷◌, ◌++◌, length, slice_get, Option, Some, None}
-use Rattle.std.proofs.Common.{refl, sym, ap, subst, ◌∙◌, append_assoc}
+use Rattle.std.specs.Prelude.{◌≡◌, ◌≢◌, ℕ, zero, suc, List, [], ◌∷◌, ◌++◌, length, slice_get, Option, Some, None}
+use Rattle.std.proofs.Common.{refl, sym, ap, ◌∙◌, append_assoc}
 use Rattle.std.specs.FinMap as map
 use Rattle.lsm_disk.specs.Names.{Node, Folder_node, File_node, NameOp, Put, Names, named, stands, id_of}
-use Rattle.lsm_disk.specs.State.{FileState, State, Change, Created, Named, Appended, after, names_now, new_file, longer, in_file, in_found, bytes_of, file_at, folder_made, appended}
-use Rattle.lsm_disk.specs.Images.{Tree, tree_now, bytes_at, bytes_by, contents_of}
+use Rattle.lsm_disk.specs.State.{FileState, State, Created, Named, Appended, after, names_now, new_file, longer, in_file, in_found, bytes_of, file_at, folder_made, appended}
+use Rattle.lsm_disk.specs.Images.{tree_now, bytes_at, bytes_by, contents_of}
 use Rattle.lsm_disk.proofs.Files.{same_some}
 use Rattle.lsm_disk.proofs.Paths.{get_put, get_put_other}
 use Rattle.lsm_disk.proofs.Images.{all_push}

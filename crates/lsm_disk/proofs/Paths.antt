@@ -46,14 +46,14 @@ get_put_other names path other node ne = map.get-insert nat_list_cmp_total names
 pub get_gone_other : (names : Names) (path other : List ℕ) → path ≢ other → map.get (map.remove names other) path ≡ map.get names path
 get_gone_other names path other ne = map.get-remove nat_list_cmp_total names other path ∙ ap (λ b. cond b None (map.get names path)) (path_other path other ne)
 
-itself : (n : ℕ) → (n == n) ≡ true
+pub itself : (n : ℕ) → (n == n) ≡ true
 itself n = grind (arith, nat_tests)
 
-number : (m n : ℕ) → (m == n) ≡ true → m ≡ n
+pub number : (m n : ℕ) → (m == n) ≡ true → m ≡ n
 number m n h = grind (arith, nat_tests)
 
 -- what follows in a path that is in the folder
-under_tail : (folder path rest : List ℕ) → under folder path ≡ Some rest → under [] rest ≡ Some rest
+pub under_tail : (folder path rest : List ℕ) → under folder path ≡ Some rest → under [] rest ≡ Some rest
 under_tail [] [] rest is = subst (λ (l : List ℕ). under [] l ≡ Some l) (same_some [] rest is) refl
 under_tail [] (c ∷ path) rest is =
     elim (c == 47) as (λ b. (c == 47) ≡ b → cond b (Some (c ∷ path)) None ≡ Some rest → under [] rest ≡ Some rest) [
@@ -64,7 +64,7 @@ under_tail (f ∷ folder) [] rest is = cc
 under_tail (f ∷ folder) (c ∷ path) rest is =
     elim (f == c) as (λ b. cond b (under folder path) None ≡ Some rest → under [] rest ≡ Some rest) [ true ↦ λ h. under_tail folder path rest h | false ↦ λ h. cc ] is
 
-under_append : (folder rest : List ℕ) → under [] rest ≡ Some rest → under folder (folder ++ rest) ≡ Some rest
+pub under_append : (folder rest : List ℕ) → under [] rest ≡ Some rest → under folder (folder ++ rest) ≡ Some rest
 under_append [] rest h = h
 under_append (f ∷ folder) rest h = ap (λ b. cond b (under folder (folder ++ rest)) None) (itself f) ∙ under_append folder rest h
 
@@ -83,7 +83,7 @@ module _ (from to path : List ℕ) (out : under from path ≡ None) (off : under
       ap (λ b. cond b (Some e.1) (map.find path_cmp path (moved_entries from to es))) (same_test e.0)
       ∙ ap (λ o. cond (eq_by_cmp path_cmp path e.0) (Some e.1) o) (find_moved es)
 
-get_renamed : (from to path : List ℕ) (node : Option Node) (names : Names) → OpSpares path (Moved from to) → map.get (renamed from to node names) path ≡ map.get names path
+pub get_renamed : (from to path : List ℕ) (node : Option Node) (names : Names) → OpSpares path (Moved from to) → map.get (renamed from to node names) path ≡ map.get names path
 get_renamed from to path None names spares = refl
 get_renamed from to path (Some (File_node id)) names spares = get_put_other (map.remove names from) path to (File_node id) spares.1 ∙ get_gone_other names path from spares.0
 get_renamed from to path (Some Folder_node) names spares =

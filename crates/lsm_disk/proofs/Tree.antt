@@ -1,14 +1,13 @@
 -- Names stay a tree.
-use Rattle.std.specs.Prelude.{◌≡◌, ◌≢◌, ◌⊎◌, ℕ, zero, suc, ◌+◌, ◌<◌, ◌≤◌, ◌==◌, Bool, true, false, cond, List, [], ◌∷◌, ◌++◌, length, take, Option, Some, None, is_some, unwrap_or}
-use Rattle.std.proofs.Common.{⊎_elim, inl, inr, refl, sym, ap, subst, ◌∙◌, arith, length-append}
+use Rattle.std.specs.Prelude.{◌≡◌, ◌≢◌, ℕ, zero, suc, ◌+◌, ◌<◌, ◌≤◌, ◌==◌, Bool, true, false, cond, List, [], ◌∷◌, ◌++◌, length, Option, Some, None, is_some}
+use Rattle.std.proofs.Common.{⊎_elim, refl, sym, ap, subst, ◌∙◌, arith, length-append}
 use Rattle.std.proofs.lemmas.List.{append-nil, take_all}
 use Rattle.std.specs.FinMap as map
 use Rattle.lsm_names.specs.Paths.{cut_last, put_before, or_root, parent_of}
 use Rattle.lsm_disk.specs.Names.{Node, Folder_node, File_node, NameOp, Put, Names, named, all_named, stands, is_folder, is_folder_node}
-use Rattle.lsm_disk.specs.State.{FileState, State, Created, Named, Appended, Idle, after, names_now, new_file, longer, in_file, in_found, file_at, folder_made, appended}
+use Rattle.lsm_disk.specs.State.{FileState, State, Created, Appended, after, names_now, new_file, longer, in_file, in_found, file_at, folder_made, appended}
 use Rattle.lsm_disk.specs.Tree.{IsTree, LeadsToFiles, IsLawful}
 use Rattle.lsm_disk.specs.Refusals.{no_room, no_room_in}
-use Rattle.lsm_disk.specs.declared.calls.DiskError.{DiskError}
 use Rattle.lsm_disk.specs.declared.calls.DiskError.TheVariants.{NotThere, Exists}
 use Rattle.lsm_disk.proofs.Files.{same_some}
 use Rattle.lsm_disk.proofs.Paths.{get_put, get_put_other, path_cases}
@@ -22,7 +21,7 @@ pub cut_append : (xs ys front : List ℕ) → cut_last ys ≡ Some front → cut
 cut_append [] ys front is = is
 cut_append (x ∷ xs) ys front is = ap (put_before x) (cut_append xs ys front is)
 
-cut_within : (path front : List ℕ) → cut_last path ≡ Some front → length front < length path
+pub cut_within : (path front : List ℕ) → cut_last path ≡ Some front → length front < length path
 cut_within [] front is = cc
 cut_within (c ∷ path) front is = by_rest (cut_last path) (cut_within path) is where
   slash : (b : Bool) → cond b (Some []) None ≡ Some front → length front < length (c ∷ path)
@@ -58,7 +57,7 @@ room_free names path is = by_tests (is_folder names (parent_of path)) (stands na
   by_tests true (Some node) e = cc
   by_tests false (Some node) e = cc
 
-free_named : (names : Names) (path : List ℕ) → stands names path ≡ None → [] ≢ path
+pub free_named : (names : Names) (path : List ℕ) → stands names path ≡ None → [] ≢ path
 free_named names path free root = let clash : Some Folder_node ≡ None = ap (stands names) root ∙ free in cc
 
 -- ---- a tree
@@ -121,7 +120,7 @@ pub leads_more : (names : Names) (m n : ℕ) → m ≤ n → LeadsToFiles names 
 leads_more names m n le leads = record { made = λ path id is. omega (arith, leads.made path id is, le) }
 
 -- one operation more that leaves a tree
-lawful_op : (s : State) (op : NameOp) (fs : List FileState) → IsLawful s → length s.files ≤ length fs → IsTree (named op (names_now s)) → LeadsToFiles (named op (names_now s)) (length fs) → IsLawful (record s { pending = s.pending ++ op ∷ []; files = fs })
+pub lawful_op : (s : State) (op : NameOp) (fs : List FileState) → IsLawful s → length s.files ≤ length fs → IsTree (named op (names_now s)) → LeadsToFiles (named op (names_now s)) (length fs) → IsLawful (record s { pending = s.pending ++ op ∷ []; files = fs })
 lawful_op s op fs lawful le tree leads = record {
   trees = λ k. ⊎_elim
       (λ short. subst (λ (ops : List NameOp). IsTree (all_named ops s.durable)) (sym short) (lawful.trees k))
@@ -144,11 +143,11 @@ leads_put names path node n new leads = record {
 folder_made_nothing : (n id : ℕ) → Folder_node ≡ File_node id → id < n
 folder_made_nothing n id is = absurd (cc is)
 
-file_made : (n k id : ℕ) → k < n → File_node k ≡ File_node id → id < n
+pub file_made : (n k id : ℕ) → k < n → File_node k ≡ File_node id → id < n
 file_made n k id lt is = let same : k ≡ id = cc is in omega (arith, same, lt)
 
 -- where a name has room, it may be put
-lawful_put : (s : State) (path : List ℕ) (node : Node) (fs : List FileState) → IsLawful s → length s.files ≤ length fs → ((id : ℕ) → node ≡ File_node id → id < length fs) → no_room path s ≡ None → IsLawful (record s { pending = s.pending ++ Put path node ∷ []; files = fs })
+pub lawful_put : (s : State) (path : List ℕ) (node : Node) (fs : List FileState) → IsLawful s → length s.files ≤ length fs → ((id : ℕ) → node ≡ File_node id → id < length fs) → no_room path s ≡ None → IsLawful (record s { pending = s.pending ++ Put path node ∷ []; files = fs })
 lawful_put s path node fs lawful le new room = lawful_op s (Put path node) fs lawful le
     (tree_put (names_now s) path node (lawful_now s lawful) (room_folder (names_now s) path room) (room_free (names_now s) path room))
     (leads_put (names_now s) path node (length fs) new (leads_more (names_now s) (length s.files) (length fs) le (lawful_made s lawful)))

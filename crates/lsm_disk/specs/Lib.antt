@@ -7,5 +7,6 @@ pub mod Kept
 pub mod Viewed
 pub mod Codes
 pub mod Kinds
+pub mod Listing
 pub mod Refusals
 pub mod Answers

@@ -78,7 +78,7 @@ pub enum DiskCall {
 
 /// A call of a disk with its path. The path of a link or a rename is that of the new name, and
 /// that of a `sync_names` is the path of the disk call before it.
-#[derive(Clone, Copy)]
+#[derive(Clone, Copy, Debug, PartialEq, Eq)]
 pub struct Halt {
     pub call: DiskCall,
     pub path: Path,
@@ -87,7 +87,7 @@ pub struct Halt {
 /// What a call of a higher crate answers where one of its disk calls was refused: which call,
 /// and how. Where the higher call's own growth was refused, `why` is `NoMemory` and `at` is the
 /// disk call that was to come next.
-#[derive(Clone, Copy)]
+#[derive(Clone, Copy, Debug, PartialEq, Eq)]
 pub struct DiskRefusal {
     pub at: Halt,
     pub why: DiskError,

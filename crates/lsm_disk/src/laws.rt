@@ -1,12 +1,12 @@
 //! Laws of every story: each is the contract of a function that does nothing.
 ghost use Rattle.std.specs.Prelude.{◌≡◌, ◌≢◌, ℕ, List, [], ◌∷◌, ◌++◌, length, Some, None};
 ghost use Rattle.std.specs.FinMap as map;
-ghost use Rattle.lsm_disk.specs.Names.{Node, Folder_node, File_node, stands};
-ghost use Rattle.lsm_disk.specs.State.{State, FileState, Story, Change, Created, after, state_of, names_now, file_at, folder_made, appended};
-ghost use Rattle.lsm_disk.specs.Tree.{IsLawful};
-ghost use Rattle.lsm_disk.specs.Refusals.{no_room};
+ghost use Rattle.lsm_disk.specs.Names.{Node, Folder_node, File_node, Names, stands, under, renamed};
+ghost use Rattle.lsm_disk.specs.State.{State, FileState, Story, Change, Created, after, state_of, names_now, new_file, longer, sure, file_at, folder_made, appended, linked, renamed_by, unnamed, file_synced, names_synced};
+ghost use Rattle.lsm_disk.specs.Tree.{IsTree, LeadsToFiles, IsLawful};
+ghost use Rattle.lsm_disk.specs.Refusals.{no_room, no_file, no_link, no_rename, no_removal};
 ghost use Rattle.lsm_disk.specs.Answers.{then_change};
-ghost use Rattle.lsm_disk.specs.Images.{IsImage, IsCut, tree_now, bytes_at};
+ghost use Rattle.lsm_disk.specs.Images.{Tree, IsImage, IsCut, tree_now, bytes_at};
 ghost use Rattle.lsm_disk.specs.Kept.{IsKeptFile, Spares, Everywhere};
 
 /// A disk as it reads is one of its images.
@@ -67,4 +67,31 @@ pub fn lawful_after_made()
     ensures created { (s : State) (path : List ℕ) → IsLawful s → no_room path s ≡ None → IsLawful (after s (Created path)) }
     ensures folder_made { (s : State) (path : List ℕ) → IsLawful s → no_room path s ≡ None → IsLawful (after s (folder_made path s)) }
     ensures appended { (s : State) (path more : List ℕ) → IsLawful s → IsLawful (after s (appended path more s)) }
+{}
+
+/// A disk stays lawful under each call that isn't refused, and so does each image.
+pub fn lawful_after_calls()
+    ensures linked { (s : State) (from to : List ℕ) → IsLawful s → no_link from to s ≡ None → IsLawful (after s (linked from to s)) }
+    ensures renamed { (s : State) (from to : List ℕ) → IsLawful s → no_rename from to s ≡ None → IsLawful (after s (renamed_by from to s)) }
+    ensures unlinked { (s : State) (path : List ℕ) → IsLawful s → no_file path s ≡ None → IsLawful (after s (unnamed path s)) }
+    ensures removed { (s : State) (path : List ℕ) → IsLawful s → no_removal path s ≡ None → IsLawful (after s (unnamed path s)) }
+    ensures synced { (s : State) (path : List ℕ) → IsLawful s → IsLawful (after s (file_synced path s)) }
+    ensures names_synced { (s : State) → IsLawful s → IsLawful (after s (names_synced s)) }
+    ensures images { (s : State) (t : Tree) → IsLawful s → IsImage s t → IsTree t.names × LeadsToFiles t.names (length t.contents) }
+{}
+
+/// A sync makes a file whole in each image, and a sync of names makes its name sure: a new file
+/// that was made and whose names were synced is kept, and its bytes are sure once it was synced.
+pub fn kept_after_syncs()
+    ensures created { (s : State) (path : List ℕ) → IsKeptFile (after (after s (Created path)) (names_synced (after s (Created path)))) path (length s.files) new_file }
+    ensures appended { (s : State) (path : List ℕ) (id : ℕ) (f : FileState) (bytes : List ℕ) → IsKeptFile s path id f → IsKeptFile (after s (appended path bytes s)) path id (longer bytes f) }
+    ensures synced { (s : State) (path : List ℕ) (id : ℕ) (f : FileState) → IsKeptFile s path id f → IsKeptFile (after s (file_synced path s)) path id (sure f) }
+    ensures names_synced { (s : State) (path : List ℕ) (id : ℕ) (f : FileState) → IsKeptFile s path id f → IsKeptFile (after s (names_synced s)) path id f }
+{}
+
+/// Where a folder moves to a name at and inside which nothing stands, what stood inside it stands
+/// inside the new name.
+pub fn folder_moves_whole()
+    ensures { (names : Names) (from to rest : List ℕ) → ((r : List ℕ) → under [] r ≡ Some r → map.get names (to ++ r) ≡ None) → under [] rest ≡ Some rest
+        → map.get (renamed from to (Some Folder_node) names) (to ++ rest) ≡ map.get names (from ++ rest) }
 {}

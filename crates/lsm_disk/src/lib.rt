@@ -4,11 +4,17 @@
 mod calls;
 mod disk;
 mod laws;
+mod listing;
+#[cfg(test)]
+mod tests;
+mod view;
 
 pub use calls::{DiskCall, DiskError, DiskRefusal, Halt, Kind};
 pub use disk::Disk;
 pub use laws::{
-    bytes_after_appended, bytes_after_created, bytes_of_others, free_below_free,
-    kept_file_everywhere, lawful_after_made, made_names_stand, reads_as_an_image, spared_file_kept,
-    story_grows_by_one,
+    bytes_after_appended, bytes_after_created, bytes_of_others, folder_moves_whole,
+    free_below_free, kept_after_syncs, kept_file_everywhere, lawful_after_calls, lawful_after_made,
+    made_names_stand, reads_as_an_image, spared_file_kept, story_grows_by_one,
 };
+pub use listing::{Entry, Listing};
+pub use view::{View, ViewFault};

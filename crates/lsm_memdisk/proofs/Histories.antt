@@ -1,8 +1,8 @@
 -- The record of changes, as it grows.
-use Rattle.std.specs.Prelude.{◌≡◌, ℕ, zero, suc, ◌+◌, ◌-◌, ◌≤◌, List, [], ◌∷◌, ◌++◌, length}
+use Rattle.std.specs.Prelude.{◌≡◌, ℕ, zero, suc, ◌+◌, ◌-◌, ◌^◌, min, List, [], ◌∷◌, ◌++◌, length}
 use Rattle.std.proofs.Common.{refl, sym, ap, ◌∙◌, arith, append_assoc, length-append}
 use Rattle.lsm_disk.specs.State.{Change, Idle}
-use Rattle.lsm_memdisk.specs.History.{idle, filled, Rises}
+use Rattle.lsm_memdisk.specs.History.{idle, filled, Rises, appended_by, appended_in, IsCount}
 
 idle_length : (n : ℕ) → length (idle n) ≡ n
 idle_length zero = refl
@@ -43,3 +43,12 @@ pub filled_length : (from to : ℕ) (steps : List (ℕ × Change)) → Rises fro
 filled_length from to [] rises = omega (arith, rises, idle_length (to - from))
 filled_length from to (s ∷ steps) rises =
     omega (arith, rises.0, filled_length (s.0 + 1) to steps rises.1, idle_length (s.0 - from), length-append (idle (s.0 - from)) (s.1 ∷ filled (s.0 + 1) steps to))
+
+-- ---- the bytes appended
+
+appended_push : (cs : List Change) (c : Change) → appended_in (cs ++ c ∷ []) ≡ appended_in cs + appended_by c
+appended_push [] c = omega arith
+appended_push (x ∷ cs) c = omega (arith, appended_push cs c)
+
+pub count_push : (count add : ℕ) (log new : List Change) (c : Change) → IsCount count log → new ≡ log ++ c ∷ [] → add ≡ appended_by c → IsCount (min (count + add) (2 ^ 64 - 1)) new
+count_push count add log new c is pushed adds = omega (arith, is, adds, ap appended_in pushed, appended_push log c)

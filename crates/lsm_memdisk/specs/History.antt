@@ -1,7 +1,7 @@
 -- The record of changes by the clock, as the log of a story.
-use Rattle.std.specs.Prelude.{ℕ, zero, suc, ◌+◌, ◌-◌, ◌≤◌, List, [], ◌∷◌, ◌++◌, refl}
+use Rattle.std.specs.Prelude.{◌≡◌, ℕ, zero, suc, ◌+◌, ◌-◌, ◌^◌, ◌≤◌, min, length, List, [], ◌∷◌, ◌++◌, refl}
 use Rattle.std.specs.Coded.{Coded, code_by, coded×, coded_ℕ, coded_list}
-use Rattle.lsm_disk.specs.State.{Change, Idle}
+use Rattle.lsm_disk.specs.State.{Change, Created, Named, Appended, Synced, Names_synced, Idle}
 use Rattle.lsm_disk.specs.Codes.{coded_change}
 
 -- the clock alone moves, so many times
@@ -26,3 +26,21 @@ pub record Shown : Type 0 where
 
 abbrev pub coded_history : Coded Shown
 coded_history = code_by (List Change × ℕ) (coded× (coded_list coded_change) coded_ℕ) (λ r. (r.log, r.room)) (λ p. record { log = p.0; room = p.1 }) (λ _. refl)
+
+-- how many bytes a change appends
+abbrev pub appended_by : Change → ℕ
+appended_by (Created path) = 0
+appended_by (Named op) = 0
+appended_by (Appended id bytes) = length bytes
+appended_by (Synced id) = 0
+appended_by Names_synced = 0
+appended_by Idle = 0
+
+-- how many bytes were appended
+abbrev pub appended_in : List Change → ℕ
+appended_in [] = 0
+appended_in (c ∷ cs) = appended_by c + appended_in cs
+
+-- the count, which stays at its last value
+abbrev pub IsCount : ℕ → List Change → Type 0
+IsCount count log = count ≡ min (appended_in log) (2 ^ 64 - 1)

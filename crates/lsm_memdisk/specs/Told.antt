@@ -2,7 +2,7 @@
 use Rattle.std.specs.Prelude.{◌≡◌, ℕ, Bool, true, false, List, [], ◌∷◌, Some}
 use Rattle.std.specs.FinMap as map
 use Rattle.lsm_disk.specs.Names.{Names}
-use Rattle.lsm_disk.specs.State.{State, Story, Seen, Change, FileState, after_all, names_now}
+use Rattle.lsm_disk.specs.State.{State, Seen, Change, FileState, after_all, names_now}
 use Rattle.lsm_disk.specs.Tree.{IsLawful}
 
 abbrev pub is_empty : {A : Type 0} → List A → Bool

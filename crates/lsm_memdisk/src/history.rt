@@ -1,9 +1,17 @@
 //! The record of all calls that changed a name, a file or what is durable, each at its value of
 //! the clock. A call that changed nothing moves the clock alone and adds nothing to the record.
-ghost use Rattle.std.specs.Prelude.{◌≡◌, ◌≤◌, ◌<◌, ◌+◌, ◌-◌, ◌^◌, ◌++◌, ◌∷◌, [], OnOk, OnErr, IsTrue, ◌↔◌, length};
+ghost use Rattle.std.specs.Prelude.{◌≡◌, ◌≤◌, ◌<◌, ◌+◌, ◌-◌, ◌^◌, ◌++◌, ◌∷◌, [], ℕ, OnOk, OnErr, IfOk, IsTrue, ◌↔◌, length, take, drop, min};
+ghost use Rattle.std.specs.FinMap as map;
+ghost use Rattle.lsm_disk.specs.Names.{all_named, renamed};
+ghost use Rattle.lsm_disk.specs.State.{State, Idle, names_now};
+ghost use Rattle.lsm_memdisk.specs.Target.{node_of};
+ghost use Rattle.lsm_memdisk.specs.Told.{state_after};
+ghost use Rattle.lsm_memdisk.specs.Replay.{syncs_names, files_after, names_after, replayed, changes, Quiet};
+ghost use Rattle.lsm_memdisk.specs.History.{appended_in, appended_by};
 ghost use Rattle.lsm_memdisk.specs.What.{change_of};
 
 use crate::file::push_room;
+use crate::table::{NameTable, Target};
 use std::alloc::{AllocError, Global};
 use std::marker::Model;
 
@@ -12,7 +20,12 @@ use std::marker::Model;
 pub enum What {
     Create(Vec<u8>),
     MakeFolder(Vec<u8>),
+    Link(Vec<u8>, usize),
+    Rename(Vec<u8>, Vec<u8>),
+    Unname(Vec<u8>),
     Append(usize, Vec<u8>),
+    Sync(usize),
+    SyncNames,
 }
 
 /// A change at its value of the clock.
@@ -42,11 +55,12 @@ impl Model for Step {
 pub struct History {
     steps: Vec<Step>,
     clock: u64,
+    appended: u64,
 }
 
 impl Model for History {
     ghost use Rattle.std.specs.Prelude.{◌-◌, vec_len, vec_capacity};
-    ghost use Rattle.lsm_memdisk.specs.History.{Shown, coded_history, filled, Rises};
+    ghost use Rattle.lsm_memdisk.specs.History.{Shown, coded_history, filled, Rises, IsCount};
 
     ghost Value = { Shown };
 
@@ -54,7 +68,126 @@ impl Model for History {
 
     ghost view = { λ r. record { log = filled 0 r.steps.items r.clock; room = vec_capacity r.steps - vec_len r.steps } };
 
-    ghost invariant = { λ r. Rises 0 r.steps.items r.clock };
+    ghost invariant = { λ r. Rises 0 r.steps.items r.clock × IsCount r.appended (filled 0 r.steps.items r.clock) };
+}
+
+/// How many bytes a change appends.
+fn appended_by(what: &What) -> u64
+    ensures { result ≡ appended_by (change_of what.now) }
+{
+    match what {
+        What::Append(_, bytes) => bytes.len() as u64,
+        _ => 0,
+    }
+}
+
+impl Step {
+    fn is_names_sync(&self) -> bool
+        ensures { result ≡ syncs_names self.now.1 }
+    {
+        matches!(&self.what, What::SyncNames)
+    }
+
+    /// How many files were made, after this change.
+    fn files_after(&self, files: usize) -> Result<usize, AllocError>
+        ensures { IfOk result (λ n. n ≡ files_after self.now.1 files) }
+    {
+        match &self.what {
+            What::Create(_) => files.checked_add(1).ok_or(AllocError),
+            _ => Ok(files),
+        }
+    }
+
+    /// The names after this change, where so many files were made before.
+    fn apply(&self, alloc: Global, names: NameTable, files: usize) -> Result<NameTable, AllocError>
+        ensures { IfOk result (λ t. t ≡ names_after self.now.1 files names) }
+    {
+        match &self.what {
+            What::Create(path) => with_name(alloc, names, path.as_slice(), Target::File(files)),
+            What::MakeFolder(path) => with_name(alloc, names, path.as_slice(), Target::Folder),
+            What::Link(to, id) => with_name(alloc, names, to.as_slice(), Target::File(*id)),
+            What::Rename(from, to) => with_rename(alloc, names, from.as_slice(), to.as_slice()),
+            What::Unname(path) => Ok(without_name(names, path.as_slice())),
+            _ => Ok(names),
+        }
+    }
+}
+
+fn with_name(
+    alloc: Global,
+    names: NameTable,
+    path: &[u8],
+    target: Target,
+) -> Result<NameTable, AllocError>
+    ensures { IfOk result (λ t. t ≡ map.insert names path.now (node_of target)) }
+{
+    let mut names = names;
+    let key = Vec::from_slice(alloc, path)?;
+    names.insert(key, target)?;
+    Ok(names)
+}
+
+fn without_name(names: NameTable, path: &[u8]) -> NameTable
+    ensures { result ≡ map.remove names path.now }
+{
+    let mut names = names;
+    let _ = names.take(path);
+    names
+}
+
+fn with_rename(
+    alloc: Global,
+    names: NameTable,
+    from: &[u8],
+    to: &[u8],
+) -> Result<NameTable, AllocError>
+    ensures { IfOk result (λ t. t ≡ renamed from.now to.now (map.get names from.now) names) }
+{
+    match names.get(from) {
+        None => Ok(names),
+        Some(Target::Folder) => names.with_moved(alloc, from, to),
+        Some(Target::File(id)) => with_name(alloc, without_name(names, from), to, Target::File(id)),
+    }
+}
+
+/// The names after the first so many steps.
+fn replayed_names(
+    alloc: Global,
+    steps: &[Step],
+    count: usize,
+    names: NameTable,
+    files: usize,
+) -> Result<NameTable, AllocError>
+    requires { count ≤ length steps.now }
+    ensures { IfOk result (λ t. t ≡ replayed (changes (take count steps.now)) files names) }
+{
+    let mut now = names;
+    let mut made = files;
+    for at in 0..count {
+        let step = &steps[at];
+        now = step.apply(alloc, now, made)?;
+        made = step.files_after(made)?;
+    }
+    Ok(now)
+}
+
+/// How many of the steps a crash keeps, by the number: none that comes before a sync of names
+/// is left out.
+fn kept_steps(steps: &[Step], pick: u64) -> usize
+    ensures within { result ≤ length steps.now }
+    ensures quiet { Quiet (drop result (changes steps.now)) }
+{
+    let mut count = steps.len();
+    for _turn in 0..pick {
+        if count == 0 {
+            return count;
+        }
+        if steps[count - 1].is_names_sync() {
+            return count;
+        }
+        count -= 1;
+    }
+    count
 }
 
 impl History {
@@ -64,6 +197,7 @@ impl History {
         History {
             steps: Vec::new(alloc),
             clock: 0,
+            appended: 0,
         }
     }
 
@@ -72,6 +206,13 @@ impl History {
         ensures { IsTrue result ↔ (2 ^ 64 - 1 ≤ length self.now.log) }
     {
         self.clock == u64::MAX
+    }
+
+    /// How many bytes were appended so far, at most 2^64 - 1.
+    pub fn appended(&self) -> u64
+        ensures { result ≡ min (appended_in self.now.log) (2 ^ 64 - 1) }
+    {
+        self.appended
     }
 
     /// Takes room for so many changes.
@@ -91,7 +232,41 @@ impl History {
         ensures room { self.old.room ≤ self.new.room + 1 }
     {
         let at = self.clock;
+        self.appended = self.appended.saturating_add(appended_by(&what));
         push_room(&mut self.steps, Step { at, what });
         self.clock += 1;
+    }
+
+    /// Moves the clock alone.
+    pub fn idle(&mut self)
+        requires { length self.old.log < 2 ^ 64 - 1 }
+        ensures log { self.new.log ≡ self.old.log ++ Idle ∷ [] }
+        ensures room { self.new.room ≡ self.old.room }
+    {
+        self.clock += 1;
+    }
+
+    /// How many cuts the names have.
+    pub fn cuts(&self) -> u64
+        ensures { 0 < result }
+    {
+        self.steps.len() as u64 + 1
+    }
+
+    /// The names that a crash leaves, by the number: those after some of the operations that are
+    /// pending, where `first` are the names and `files` the number of files at the start.
+    pub fn crashed_names(
+        &self,
+        alloc: Global,
+        first: &NameTable,
+        files: usize,
+        pick: u64,
+    ) -> Result<NameTable, AllocError>
+        ensures { (start : State) → first.now ≡ names_now start → files ≡ length start.files
+            → IfOk result (λ names. (kept : ℕ) × (names ≡ all_named (take kept (state_after start self.now.log).pending) (state_after start self.now.log).durable)) }
+    {
+        let count = kept_steps(&self.steps, pick);
+        let names = first.copy()?;
+        replayed_names(alloc, &self.steps, count, names, files)
     }
 }

@@ -5,7 +5,14 @@
 mod disk;
 mod file;
 mod history;
+mod places;
+mod plan;
 mod table;
+#[cfg(test)]
+mod tests;
+mod view;
 mod volume;
 
 pub use disk::MemDisk;
+pub use plan::Effect;
+pub use view::MemView;

@@ -1,19 +1,29 @@
 //! What a disk in memory holds, and its record: a disk none of whose calls was planned to fail.
-ghost use Rattle.std.specs.Prelude.{◌≡◌, ◌≤◌, ◌^◌, ◌-◌, length, option_map, IfOk, IfSome};
+ghost use Rattle.std.specs.Prelude.{◌≡◌, ◌+◌, ◌*◌, ◌<◌, ◌≤◌, ◌^◌, Some, IfOk, IfErr, IfSome, length, min, option_map, ◌-◌};
 ghost use Rattle.std.specs.FinMap as map;
+ghost use Rattle.lsm_io.specs.Causes.{Rose};
 ghost use Rattle.lsm_disk.specs.Names.{id_of, stands, is_folder};
-ghost use Rattle.lsm_disk.specs.State.{state_of, names_now, created, folder_made, appended};
+ghost use Rattle.lsm_disk.specs.State.{state_of, names_now, file_now, bytes_of};
 ghost use Rattle.lsm_disk.specs.Tree.{TellsLawful};
 ghost use Rattle.lsm_disk.specs.Kinds.{kind_of};
-ghost use Rattle.lsm_disk.specs.Refusals.{never, no_file, no_room, no_room_in};
-ghost use Rattle.lsm_disk.specs.Answers.{Did, Appends, Answers, TakesNoMemory, HasCause};
+ghost use Rattle.lsm_disk.specs.Listing.{listing};
+ghost use Rattle.lsm_disk.specs.Viewed.{opened};
+ghost use Rattle.lsm_disk.specs.Refusals.{never, no_file, no_folder, no_view, no_room_in, no_move_in};
+ghost use Rattle.lsm_disk.specs.Answers.{Answers, TakesNoMemory, HasCause};
+ghost use Rattle.lsm_disk.specs.declared.calls.DiskError.TheVariants.{NoMemory};
 ghost use Rattle.lsm_memdisk.specs.Target.{node_of};
 ghost use Rattle.lsm_memdisk.specs.Told.{blank_seen};
+ghost use Rattle.lsm_memdisk.specs.Crash.{IsCrashOf};
+ghost use Rattle.lsm_memdisk.specs.History.{appended_in};
 
-use crate::file::{MemFile, append_at, push_room};
-use crate::history::{History, What};
+mod files;
+mod names;
+
+use crate::file::{MemFile, copy_all, cut_all, front_at, len_at};
+use crate::history::History;
+use crate::places::is_within;
 use crate::table::{NameTable, Target};
-use lsm_disk::{DiskError, Kind};
+use lsm_disk::{DiskError, Kind, Listing};
 use lsm_names::Path;
 use std::alloc::Global;
 use std::marker::Model;
@@ -24,11 +34,13 @@ pub struct Volume {
     alloc: Global,
     links: bool,
     names: NameTable,
+    names_synced: bool,
     files: Vec<MemFile>,
+    /// How many files have bytes that weren't synced.
+    loose: usize,
     first_names: NameTable,
     first_files: Vec<MemFile>,
     history: History,
-    names_synced: bool,
     faults: u64,
     refusals: u64,
 }
@@ -37,6 +49,7 @@ impl Model for Volume {
     ghost use Rattle.lsm_disk.specs.State.{Seen};
     ghost use Rattle.lsm_disk.specs.Codes.{coded_seen};
     ghost use Rattle.lsm_memdisk.specs.Told.{seen_of, start_of, IsTied, state_after};
+    ghost use Rattle.lsm_memdisk.specs.Room.{HasRoom};
 
     ghost Value = { Seen };
 
@@ -44,7 +57,8 @@ impl Model for Volume {
 
     ghost view = { λ m. seen_of (start_of m.links m.first_names m.first_files.items) m.history.log m.faults m.refusals };
 
-    ghost invariant = { λ m. IsTied m.links m.names m.names_synced m.files.items (state_after (start_of m.links m.first_names m.first_files.items) m.history.log) };
+    ghost invariant = { λ m. IsTied m.links m.names m.names_synced m.files.items (state_after (start_of m.links m.first_names m.first_files.items) m.history.log)
+        × HasRoom m.names m.names_synced m.files.items m.loose m.history.room };
 }
 
 /// What stands under a name; the root is a folder.
@@ -87,6 +101,52 @@ fn refusal_of_new(names: &NameTable, path: &Path) -> Option<DiskError>
     }
 }
 
+/// Why a rename of what stands there is refused.
+fn refusal_of_move(
+    names: &NameTable,
+    from: &Path,
+    to: &Path,
+    target: Option<Target>,
+) -> Option<DiskError>
+    ensures { result ≡ no_move_in from.now to.now names.now (option_map node_of target) }
+{
+    match target {
+        None => Some(DiskError::NotThere),
+        Some(Target::File(_)) => {
+            if !has_folder(names, to.parent()) {
+                Some(DiskError::NotThere)
+            } else if has_folder(names, to.as_bytes()) {
+                Some(DiskError::Exists)
+            } else {
+                None
+            }
+        }
+        Some(Target::Folder) => {
+            if is_within(from.as_bytes(), to.parent()) {
+                Some(DiskError::NotThere)
+            } else {
+                refusal_of_new(names, to)
+            }
+        }
+    }
+}
+
+/// How much room in the record a change wants that makes a name or appends to a file: for the
+/// change, and for each unlink, sync and sync of names that may follow.
+fn room_for_more(names: usize, loose: usize) -> Result<usize, DiskError>
+    requires { names < 2 ^ 63 }
+    ensures room { IfOk result (λ room. room ≡ 2 * names + loose + 5) }
+    ensures memory { IfErr result (λ e. e ≡ NoMemory) }
+{
+    let Some(now) = (2 * names).checked_add(loose) else {
+        return Err(DiskError::NoMemory);
+    };
+    match now.checked_add(5) {
+        Some(room) => Ok(room),
+        None => Err(DiskError::NoMemory),
+    }
+}
+
 impl Volume {
     pub fn new(alloc: Global, links: bool) -> Volume
         ensures { result ≡ blank_seen links }
@@ -95,14 +155,66 @@ impl Volume {
             alloc,
             links,
             names: NameTable::new(alloc),
+            names_synced: true,
             files: Vec::new(alloc),
+            loose: 0,
             first_names: NameTable::new(alloc),
             first_files: Vec::new(alloc),
             history: History::new(alloc),
-            names_synced: true,
             faults: 0,
             refusals: 0,
         }
+    }
+
+    /// One image, by the number, as a disk in which all is durable.
+    pub fn crash(&self, pick: u64) -> Result<Volume, DiskError>
+        ensures image { IfOk result (λ crashed. IsCrashOf self.now crashed) }
+        ensures memory { IfErr result (λ e. e ≡ NoMemory) }
+    {
+        let cuts = self.history.cuts();
+        let names = self.history.crashed_names(
+            self.alloc,
+            &self.first_names,
+            self.first_files.len(),
+            pick % cuts,
+        )?;
+        let first_names = names.copy()?;
+        let files = cut_all(self.alloc, &self.files, pick / cuts)?;
+        let first_files = copy_all(self.alloc, &files)?;
+        let room = room_for_more(names.len(), 0)?;
+        let mut history = History::new(self.alloc);
+        history.reserve(room)?;
+        Ok(Volume {
+            alloc: self.alloc,
+            links: self.links,
+            names,
+            names_synced: true,
+            files,
+            loose: 0,
+            first_names,
+            first_files,
+            history,
+            faults: 0,
+            refusals: 0,
+        })
+    }
+
+    /// How many bytes were appended so far, at most 2^64 - 1.
+    pub fn appended(&self) -> u64
+        ensures { IfSome self.now.told (λ story. result ≡ min (appended_in story.log) (2 ^ 64 - 1)) }
+    {
+        self.history.appended()
+    }
+
+    /// Counts a fault.
+    pub fn count_fault(&mut self)
+        ensures told { self.new.told ≡ self.old.told }
+        ensures faults { Rose self.old.faults self.new.faults }
+        ensures later { self.old.faults ≤ self.new.faults }
+        ensures refusals { self.new.refusals ≡ self.old.refusals }
+        ensures lawful { TellsLawful self.old }
+    {
+        self.faults = self.faults.saturating_add(1);
     }
 
     pub fn kind(&mut self, path: &Path) -> Result<Option<Kind>, DiskError>
@@ -120,34 +232,26 @@ impl Volume {
         })
     }
 
-    pub fn create(&mut self, path: &Path) -> Result<(), DiskError>
-        ensures did { Did (created path.now) (no_room path.now) self.old self.new result }
-        ensures answer { Answers (no_room path.now) self.old result }
+    pub fn list(&mut self, folder: &Path) -> Result<Listing, DiskError>
+        ensures listed { IfOk result (λ entries. IfSome self.old.told (λ story. entries ≡ listing folder.now (names_now (state_of story)))) }
+        ensures did { self.new.told ≡ self.old.told }
+        ensures answer { Answers (no_folder folder.now) self.old result }
         ensures cause { HasCause self.old self.new result }
         ensures lawful { TellsLawful self.old }
     {
-        if let Some(why) = refusal_of_new(&self.names, path) {
+        if !has_folder(&self.names, folder.as_bytes()) {
             self.refusals = self.refusals.saturating_add(1);
-            return Err(why);
+            return Err(DiskError::NotThere);
         }
-        if self.history.is_full() {
-            self.faults = self.faults.saturating_add(1);
-            return Err(DiskError::Fault);
-        }
-        let key = Vec::from_slice(self.alloc, path.as_bytes())?;
-        let kept = Vec::from_slice(self.alloc, path.as_bytes())?;
-        self.files.reserve(1)?;
-        self.history.reserve(1)?;
-        self.names.insert(key, Target::File(self.files.len()))?;
-        self.names_synced = false;
-        push_room(&mut self.files, MemFile::new(self.alloc));
-        self.history.push(What::Create(kept));
-        Ok(())
+        let entries = self.names.listing(self.alloc, folder.as_bytes())?;
+        Ok(Listing::of(entries))
     }
 
-    pub fn append(&mut self, path: &Path, bytes: &[u8]) -> Result<(), DiskError>
-        ensures did { Appends path.now bytes.now self.old self.new result }
+    pub fn size(&mut self, path: &Path) -> Result<u64, DiskError>
+        ensures size { IfOk result (λ size. IfSome self.old.told (λ story. size ≡ length (bytes_of (file_now path.now (state_of story))))) }
+        ensures did { self.new.told ≡ self.old.told }
         ensures answer { Answers (no_file path.now) self.old result }
+        ensures memory { TakesNoMemory result }
         ensures cause { HasCause self.old self.new result }
         ensures lawful { TellsLawful self.old }
     {
@@ -155,37 +259,28 @@ impl Volume {
             self.refusals = self.refusals.saturating_add(1);
             return Err(DiskError::NotThere);
         };
-        if self.history.is_full() {
-            self.faults = self.faults.saturating_add(1);
-            return Err(DiskError::Fault);
-        }
-        let kept = Vec::from_slice(self.alloc, bytes)?;
-        self.history.reserve(1)?;
-        append_at(&mut self.files, id, bytes)?;
-        self.history.push(What::Append(id, kept));
-        Ok(())
+        Ok(len_at(&self.files, id))
     }
 
-    pub fn make_folder(&mut self, path: &Path) -> Result<(), DiskError>
-        ensures did { Did (folder_made path.now) (no_room path.now) self.old self.new result }
-        ensures answer { Answers (no_room path.now) self.old result }
+    /// The first `len` bytes of a file, for a view.
+    pub fn front(&mut self, path: &Path, len: u64) -> Result<Vec<u8>, DiskError>
+        ensures bytes { IfOk result (λ bytes. Some bytes.items ≡ (opened path.now len self.old.told).bytes) }
+        ensures len { IfOk result (λ bytes. length bytes.items ≡ len) }
+        ensures did { self.new.told ≡ self.old.told }
+        ensures answer { Answers (no_view path.now len) self.old result }
         ensures cause { HasCause self.old self.new result }
         ensures lawful { TellsLawful self.old }
     {
-        if let Some(why) = refusal_of_new(&self.names, path) {
+        let Some(id) = find_file(&self.names, path.as_bytes()) else {
             self.refusals = self.refusals.saturating_add(1);
-            return Err(why);
+            return Err(DiskError::NotThere);
+        };
+        let found = len_at(&self.files, id);
+        if found < len {
+            self.refusals = self.refusals.saturating_add(1);
+            return Err(DiskError::Short { found });
         }
-        if self.history.is_full() {
-            self.faults = self.faults.saturating_add(1);
-            return Err(DiskError::Fault);
-        }
-        let key = Vec::from_slice(self.alloc, path.as_bytes())?;
-        let kept = Vec::from_slice(self.alloc, path.as_bytes())?;
-        self.history.reserve(1)?;
-        self.names.insert(key, Target::Folder)?;
-        self.names_synced = false;
-        self.history.push(What::MakeFolder(kept));
-        Ok(())
+        let bytes = front_at(self.alloc, &self.files, id, len)?;
+        Ok(bytes)
     }
 }

@@ -14,7 +14,9 @@ returns-in_err-put-clause-puts g c start outcome was =
     (c.in_err-put.ensures.refused ∙ ap (λ (b : List Op). refusal_of b (ops.Put c.args.key.now c.args.value.now)) c.new-batch.ensures))
 
 pub log_record-requires : goal.log_record-requires
-log_record-requires g c = subst (λ (t : List ℕ). 0 < length t) (sym (c.as_slice.ensures ∙ c.in_ok-text.ensures)) (text_some _ _)
+log_record-requires g c =
+    let some : 0 < length c.as_slice.result.now = subst (λ (t : List ℕ). 0 < length t) (sym (c.as_slice.ensures ∙ c.in_ok-text.ensures)) (text_some _ _) in
+    search
 
 pub returns-clause-puts : goal.returns-clause-puts
 returns-clause-puts g c start outcome was =
