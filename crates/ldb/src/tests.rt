@@ -4,6 +4,7 @@ use lsm_disk::{Disk, View};
 use lsm_io::{ListClock, ListSessions, MemSink, MemSource};
 use lsm_memdisk::{Effect, MemDisk};
 use lsm_names::Path;
+use lsm_wal::read_wal;
 use std::process::Abort;
 use std::test::Fail;
 use std::thread::Threads;
@@ -45,7 +46,7 @@ fn prints<R: Abort + AllocGlobal + Threads + Sync>(
     Ok(())
 }
 
-const SCRIPTS: [(&str, &str, u8); 16] = [
+const SCRIPTS: [(&str, &str, u8); 28] = [
     ("", "", 0),
     ("m put a 1\nm get a\n", "seq 1\nvalue 1\n", 0),
     ("m put a 1", "seq 1\n", 0),
@@ -78,6 +79,38 @@ const SCRIPTS: [(&str, &str, u8); 16] = [
     ("M get a\n", "bad line 1\n", 2),
     ("m get a\r\n", "bad line 1\n", 2),
     (" m get a\n", "bad line 1\n", 2),
+    (
+        "m put a 1\nm del a\nm get a\nm del zz\n",
+        "seq 1\nseq 2\nnone\nseq 3\n",
+        0,
+    ),
+    (
+        "m batch put a 1 put b x: del a put a 2\nm get a\nm get b\n",
+        "seq 4\nvalue 2\nvalue x:\n",
+        0,
+    ),
+    (
+        "m batch del put\nm batch put put del\nm get put\n",
+        "seq 1\nseq 2\nvalue del\n",
+        0,
+    ),
+    (
+        "m durable put a 1\nm durable del a\nm durable batch put a 2 put b 3\nm get a\n",
+        "seq 1\nseq 2\nseq 4\nvalue 2\n",
+        0,
+    ),
+    (
+        "m sync\nm put a 1\nm sync\nm sync\n",
+        "ok\nseq 1\nok\nok\n",
+        0,
+    ),
+    ("m batch\n", "bad line 1\n", 2),
+    ("m batch put a\n", "bad line 1\n", 2),
+    ("m batch put a 1 get a\n", "bad line 1\n", 2),
+    ("m put a 1 put b 2\n", "bad line 1\n", 2),
+    ("m del a b\n", "bad line 1\n", 2),
+    ("m durable get a\n", "bad line 1\n", 2),
+    ("m sync now\n", "bad line 1\n", 2),
 ];
 
 #[test]
@@ -148,8 +181,8 @@ fn a_fault_ends_the_run(rt: HostRuntime) -> Result<(), Fail> {
         let mut sink = MemSink::new(rt.alloc(), vec![in rt.alloc(); (writes, 3)]?);
         let mut disk = MemDisk::new(rt.alloc(), true)?;
         if fails {
-            // The first append, behind a look, a folder and a file.
-            disk.fail_at(4, Effect::Nothing)?;
+            // The first append, behind a look, a folder, a file and a sync of the names.
+            disk.fail_at(5, Effect::Nothing)?;
         }
         let (given, _) = run(&rt, &mut source, &mut sink, disk)?;
         assert_eq!(rt; sink.bytes(), printed.as_bytes());
@@ -179,6 +212,38 @@ fn a_put_is_answered_and_in_the_log(rt: HostRuntime) -> Result<(), Fail> {
         *b"\x11\0\x01\x01\0\0\0\0\0\0\0\x01\0\0\0\x01\x01a\x011"
     );
     disk.close(view);
+    Ok(())
+}
+
+#[test]
+fn a_crash_leaves_each_durable_write(rt: HostRuntime) -> Result<(), Fail> {
+    // Two writes are durable, and a bad line ends the run before the third one is.
+    let mut source = MemSource::new(
+        Vec::from_slice(
+            rt.alloc(),
+            b"m durable put a 1\nm durable put b 2\nm put c 3\nno line\n",
+        )?,
+        Vec::new(rt.alloc()),
+    );
+    let mut sink = MemSink::new(rt.alloc(), Vec::new(rt.alloc()));
+    let (status, disk) = run(&rt, &mut source, &mut sink, MemDisk::new(rt.alloc(), true)?)?;
+    assert_eq!(rt; status, 2);
+    let log = Path::parse(b"db/000002.log")?;
+    let mut found = [false; 25];
+    for pick in 0..100u64 {
+        let mut crashed = disk.crash(pick)?;
+        let len = crashed.size(&log).expect(&rt, "a log");
+        assert!(rt; 48 <= len && len <= 72);
+        found[(len - 48) as usize] = true;
+        let view = crashed.open(&log, len).expect(&rt, "a view");
+        let batches = match read_wal(rt.alloc(), view, 1) {
+            Ok(read) => read.batches.len(),
+            Err(_) => 0,
+        };
+        assert_eq!(rt; batches, if len == 72 { 3 } else { 2 });
+    }
+    // Each cut of the third write's record is some crash.
+    assert!(rt; found.iter().all(|found| *found));
     Ok(())
 }
 

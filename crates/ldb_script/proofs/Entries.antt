@@ -1,15 +1,16 @@
 -- The entries of a sorted map as contents.
-use Rattle.std.specs.Prelude.{◌≡◌, ℕ, true, false, cond, List, [], ◌∷◌, map, Option, Some, Vec}
+use Rattle.std.specs.Prelude.{◌≡◌, ℕ, Bool, true, false, cond, List, [], ◌∷◌, map, Option, Some, None, Vec}
 use Rattle.std.proofs.Common.{refl, sym, ap, ◌∙◌}
 use Rattle.std.specs.Option.{option_map}
 use Rattle.std.specs.Ordering.{is_eq, eq_by_cmp, match_ordering}
 use Rattle.std.specs.declared.cmp.Ordering.TheVariants.{Less, Equal, Greater}
 use Rattle.std.specs.Cmp.Lexicographic.{nat_list_cmp_total}
-use Rattle.std.specs.Map.{lookup}
+use Rattle.std.specs.Map.{lookup, KeepsOthers}
 use Rattle.std.specs.BTreeMap.{insert_entry}
 use Rattle.std.specs.FinMap as finite
 use Rattle.std.specs.FinMap.Entries.{by_order, find-put}
 use Rattle.lsm_rows.specs.Replay.{key_cmp}
+use Rattle.lsm_rows.proofs.NewestRows.{same_key}
 use Rattle.ldb_script.specs.Contents.{pair_of, contents_of}
 
 module _ {Z : Type 0} where
@@ -43,3 +44,27 @@ module _ {Z : Type 0} where
       ∙ ap (finite.find key_cmp q) (put_entry es k v)
       ∙ find-put key_cmp nat_list_cmp_total q k.items v.items (map pair_of es)
       ∙ sym (finite.get-insert nat_list_cmp_total (contents_of es) k.items v.items q ∙ ap (cond (eq_by_cmp key_cmp q k.items) (Some v.items)) (finite.get-from_entries nat_list_cmp_total (map pair_of es) q)))
+
+  -- the key that is taken out is there no more, and the others stay
+  module _ (es new : List (Vec ℕ Z × Vec ℕ Z)) (key : List ℕ) (gone : lookup (λ (k : Vec ℕ Z). is_eq (key_cmp key k.items)) new ≡ None)
+      (others : KeepsOthers (eq_by_cmp (λ (x y : Vec ℕ Z). key_cmp x.items y.items)) (λ (k : Vec ℕ Z). is_eq (key_cmp key k.items)) es new) where
+    same_key_test : (q : List ℕ) (x y : Vec ℕ Z) → is_eq (key_cmp q x.items) ≡ true → is_eq (key_cmp q y.items) ≡ is_eq (key_cmp x.items y.items)
+    same_key_test q x y e = ap (λ (k : List ℕ). is_eq (key_cmp k y.items)) (same_key q x.items e)
+
+    left_by : (q : List ℕ) (b : Bool) → is_eq (key_cmp q key) ≡ b → finite.get (contents_of new) q ≡ cond b None (finite.get (contents_of es) q)
+    unfolding KeepsOthers
+    left_by q true e =
+        sym (value_at new q (lookup (λ (k : Vec ℕ Z). is_eq (key_cmp q k.items)) new) refl)
+        ∙ ap (λ (p : List ℕ). option_map (λ (v : Vec ℕ Z). v.items) (lookup (λ (k : Vec ℕ Z). is_eq (key_cmp p k.items)) new)) (same_key q key e)
+        ∙ ap (option_map (λ (v : Vec ℕ Z). v.items)) gone
+    left_by q false e =
+        sym (value_at new q (lookup (λ (k : Vec ℕ Z). is_eq (key_cmp q k.items)) new) refl)
+        ∙ ap (option_map (λ (v : Vec ℕ Z). v.items))
+        (others (λ (k : Vec ℕ Z). is_eq (key_cmp q k.items)) (same_key_test q) (λ k is. ap (λ (p : List ℕ). is_eq (key_cmp q p)) (sym (same_key key k.items is)) ∙ e))
+        ∙ value_at es q (lookup (λ (k : Vec ℕ Z). is_eq (key_cmp q k.items)) es) refl
+
+    left_at : (q : List ℕ) → finite.get (contents_of new) q ≡ finite.get (finite.remove (contents_of es) key) q
+    left_at q = left_by q (is_eq (key_cmp q key)) refl ∙ sym (finite.get-remove nat_list_cmp_total (contents_of es) key q)
+
+    pub contents_removed : contents_of new ≡ finite.remove (contents_of es) key
+    contents_removed = finite.same_map nat_list_cmp_total (finite.slice_cmp-IsAntisymmetric finite.nat_cmp-IsAntisymmetric) _ _ left_at

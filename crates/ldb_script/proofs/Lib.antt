@@ -1,7 +1,12 @@
 pub mod Lines
+pub mod Batches
+pub mod Broken
+pub mod Closing
 pub mod Entries
+pub mod NamedOperations
 pub mod Opened
 pub mod Logs
 pub mod Serving
+pub mod Sizes
 pub mod Turning
 pub mod Running

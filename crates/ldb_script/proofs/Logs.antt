@@ -1,43 +1,26 @@
--- A log grows by one accepted batch.
-use Rattle.std.specs.Prelude.{◌≡◌, ℕ, ◌+◌, ◌%◌, ◌<◌, List, [], ◌∷◌, ◌++◌, length, Option, None, option_map}
+-- A log grows by one accepted batch, and is made sure.
+use Rattle.std.specs.Prelude.{◌≡◌, ℕ, ◌+◌, ◌%◌, ◌≤◌, Bool, true, false, if◌then◌else◌, List, [], ◌∷◌, ◌++◌, length, Option, Some, None, option_map, Ok}
 use Rattle.std.proofs.Common.{refl, sym, ap, subst, ◌∙◌, arith, length-append}
-use Rattle.std.proofs.lemmas.List.Sums.{fold_push}
-use Rattle.std.specs.Int.{w32, w64, to_le_bytes}
-use Rattle.std.specs.List.{flat_map}
+use Rattle.std.proofs.lemmas.List.{append-nil, take_all}
+use Rattle.std.specs.List.{fold}
 use Rattle.lsm_rows.specs.declared.operations.Op.{Op}
-use Rattle.lsm_rows.specs.BatchText.{op_text, batch_text}
-use Rattle.lsm_rows.specs.Replay.{sequence_after}
-use Rattle.lsm_frame.specs.Frames.{record_text, with_record, log_text}
-use Rattle.lsm_frame.proofs.Places.{place_of_record}
-use Rattle.lsm_disk.specs.State.{State, Story, state_of, appended}
-use Rattle.lsm_disk.specs.Images.{tree_now, bytes_at}
+use Rattle.lsm_rows.specs.BatchText.{batch_text}
+use Rattle.lsm_rows.specs.Replay.{Contents, applied, sequence_after}
+use Rattle.lsm_frame.specs.Frames.{record_text}
+use Rattle.lsm_disk.specs.State.{State, Story, after as later, state_of, bytes_of, sure, file_synced}
+use Rattle.lsm_disk.specs.Images.{Tree, IsImage, tree_now, bytes_at}
 use Rattle.lsm_disk.specs.Answers.{Makes, pushed}
-use Rattle.lsm_disk.proofs.Now.{bytes_appended}
+use Rattle.lsm_disk.proofs.Cuts.{cut_front}
+use Rattle.lsm_disk.proofs.Kept.{kept_synced, kept_image}
+use Rattle.lsm_disk.proofs.Images.{reads_image}
 use Rattle.lsm_disk.proofs.Runs.{state_push}
-use Rattle.std.specs.Prelude.{Result, Ok, Err, IsErr, IsErrAnd}
-use Rattle.ldb_script.specs.declared.store.PutError.{PutError}
-use Rattle.std.specs.FinMap as finite
-use Rattle.lsm_rows.specs.Replay.{Contents}
-use Rattle.lsm_rows.specs.Limits.{refusal_of, refused_in}
-use Rattle.lsm_rows.specs.declared.operations.Op.TheVariants as ops
-use Rattle.lsm_rows.specs.declared.refusals.BatchRefusal.{BatchRefusal}
-use Rattle.lsm_rows.specs.declared.refusals.BatchRefusal.TheVariants as refusals
-use Rattle.ldb_script.specs.Plain.{Outcome, put_batch, written, both}
-use Rattle.ldb_script.specs.Stored.{Shown, Holds, Stands, batch_texts, log_of}
-use Rattle.ldb_script.specs.Opening.{IsUnput, Puts, limit_error}
-
--- the file is longer by what was appended
-pub log_longer : (old new : Option Story) (path more bytes : List ℕ) → Holds old path bytes → Makes old (appended path more) new → Holds new path (bytes ++ more)
-log_longer old new path more bytes held makes = record {
-  story = pushed (appended path more) held.story;
-  tells = makes ∙ ap (option_map (pushed (appended path more))) held.tells;
-  now = ap (λ (s : State). bytes_at (tree_now s) path) (state_push held.story (appended path more (state_of held.story))) ∙ bytes_appended (state_of held.story) path more bytes held.now;
-}
-
--- a batch's text has some bytes
-pub text_some : (first : ℕ) (ops : List Op) → 0 < length (batch_text first ops)
-unfolding batch_text
-text_some first ops = omega (arith, length-append (to_le_bytes w64 first) (to_le_bytes w32 (length ops)), length-append (to_le_bytes w64 first ++ to_le_bytes w32 (length ops)) (flat_map op_text ops))
+use Rattle.lsm_wal.specs.Batches.{Logged, text_of, wal_text, in_sequence}
+use Rattle.lsm_wal.specs.Standing.{IsWal, IsLeft}
+use Rattle.lsm_wal.proofs.Texts.{text_push}
+use Prim.Native.Nat.{suc}
+use Rattle.ldb_script.specs.Plain.{Outcome, written, with_batch, both}
+use Rattle.ldb_script.specs.Stored.{Shown, Stands, Logs, Keeps, log_of}
+use Rattle.ldb_script.specs.Opening.{made_durable}
 
 pub sequence_push : (start : ℕ) (batches : List (List Op)) (batch : List Op) → sequence_after start (batches ++ batch ∷ []) ≡ sequence_after start batches + length batch
 sequence_push start [] batch = refl
@@ -47,63 +30,137 @@ sequence_from : (start more : ℕ) (batches : List (List Op)) → sequence_after
 sequence_from start more [] = refl
 sequence_from start more (batch ∷ batches) = ap (λ (n : ℕ). sequence_after n batches) (omega arith) ∙ sequence_from start (more + length batch) batches
 
-texts_push : (first : ℕ) (batches : List (List Op)) (batch : List Op) → batch_texts first (batches ++ batch ∷ []) ≡ batch_texts first batches ++ batch_text (sequence_after first batches) batch ∷ []
-texts_push first [] batch = refl
-texts_push first (ops ∷ batches) batch = ap (λ (ts : List (List ℕ)). batch_text first ops ∷ ts) (texts_push (first + length ops) batches batch)
+-- the batch that comes next has the next sequences
+pub numbered_push : (first : ℕ) (batches : List (List Op)) (batch : List Op) → in_sequence first (batches ++ batch ∷ []) ≡ in_sequence first batches ++ (record { first = sequence_after first batches; ops = batch }) ∷ []
+numbered_push first [] batch = refl
+numbered_push first (ops ∷ batches) batch = ap (λ (bs : List Logged). (record { first = first; ops = ops }) ∷ bs) (numbered_push (first + length ops) batches batch)
+
+pub numbered_length : (first : ℕ) (batches : List (List Op)) → length (in_sequence first batches) ≡ length batches
+numbered_length first [] = refl
+numbered_length first (ops ∷ batches) = ap suc (numbered_length (first + length ops) batches)
 
 module _ (accepted : List (List Op)) (batch : List Op) where
-  abbrev text : List ℕ
-  text = batch_text (sequence_after 0 accepted + 1) batch
+  abbrev pub next : Logged
+  next = record { first = sequence_after 0 accepted + 1; ops = batch }
 
-  -- the log of one more batch is the log, and behind it the record
-  pub log_push : log_of (accepted ++ batch ∷ []) ≡ log_of accepted ++ record_text (length (log_of accepted) % 32768) text
+  pub accepted_push : in_sequence 1 (accepted ++ batch ∷ []) ≡ in_sequence 1 accepted ++ next ∷ []
+  accepted_push = numbered_push 1 accepted batch ∙ ap (λ (n : ℕ). let b : Logged = record { first = n; ops = batch } in in_sequence 1 accepted ++ b ∷ []) (sequence_from 1 0 accepted ∙ omega arith)
+
+  pub log_push : length (log_of (accepted ++ batch ∷ [])) ≡ length (log_of accepted) + length (record_text (length (log_of accepted) % 32768) (text_of next))
   unfolding log_of
-  log_push =
-      ap log_text (texts_push 1 accepted batch ∙ ap (λ (n : ℕ). batch_texts 1 accepted ++ batch_text n batch ∷ []) (sequence_from 1 0 accepted ∙ omega arith))
-      ∙ fold_push with_record [] (batch_texts 1 accepted) text
+  log_push = ap (λ (bs : List Logged). length (wal_text bs)) accepted_push ∙ ap length (text_push (in_sequence 1 accepted) next) ∙ length-append (wal_text (in_sequence 1 accepted)) (record_text (length (wal_text (in_sequence 1 accepted)) % 32768) (text_of next))
 
-  -- a writer that stands at its end stands there again
-  pub offset_push : (offset : ℕ) → offset ≡ length (log_of accepted) % 32768 → (offset + length (record_text offset text)) % 32768 ≡ length (log_of (accepted ++ batch ∷ [])) % 32768
-  offset_push offset is =
-      ap (λ (n : ℕ). (n + length (record_text n text)) % 32768) is ∙ place_of_record (log_of accepted) text ∙ ap (λ (l : List ℕ). length l % 32768) (sym log_push)
+-- ---- a write
 
-pub log_none : log_of [] ≡ []
-unfolding log_of
-log_none = refl
+module _ (start : Option Story) (old new : Shown) (outcome : Outcome) (was : Stands start old outcome) (batch : List Op) (sync : Bool) where
+  abbrev after : Outcome
+  after = both outcome (written outcome.after sync batch None)
 
--- ---- a put
+  abbrev behind : Logged
+  behind = record { first = old.sequence + 1; ops = batch }
 
-module _ (start : Option Story) (old : Shown) (outcome : Outcome) (key value : List ℕ) where
-  pub put_stands : (new : Shown) (text : List ℕ) → Stands start old outcome → new.log ≡ old.log → new.contents ≡ finite.insert old.contents key value → new.sequence ≡ old.sequence + 1
-      → new.offset ≡ (old.offset + length (record_text old.offset text)) % 32768 → text ≡ batch_text (old.sequence + 1) (put_batch key value)
-      → ((bytes : List ℕ) → Holds old.disk.told old.log bytes → Holds new.disk.told old.log (bytes ++ record_text old.offset text))
-      → Stands start new (both outcome (written outcome.after (put_batch key value) None))
-  put_stands new text was same contents sequence offset is_text longer =
-      let accepted : List (List Op) = outcome.accepted in
-      let batch : List Op = put_batch key value in
-      let text_e : text ≡ batch_text (sequence_after 0 accepted + 1) batch = is_text ∙ ap (λ (n : ℕ). batch_text (n + 1) batch) (was.sequence ∙ was.counted) in
-      let record_e : record_text old.offset text ≡ record_text (length (log_of accepted) % 32768) (batch_text (sequence_after 0 accepted + 1) batch) = (λ i. record_text (was.offset i) (text_e i)) in
-      record {
-        contents = contents ∙ ap (λ (m : Contents). finite.insert m key value) was.contents;
-        sequence = sequence ∙ ap (λ (n : ℕ). n + 1) was.sequence;
-        counted = ap (λ (n : ℕ). n + 1) was.counted ∙ sym (sequence_push 0 accepted batch);
-        offset = offset ∙ ap (λ (t : List ℕ). (old.offset + length (record_text old.offset t)) % 32768) text_e ∙ offset_push accepted batch old.offset was.offset;
-        log = λ story tells.
-            subst (λ (p : List ℕ). Holds new.disk.told p (log_of (accepted ++ batch ∷ []))) (sym same)
-            (subst (Holds new.disk.told old.log) (ap (λ (r : List ℕ). log_of accepted ++ r) record_e ∙ sym (log_push accepted batch)) (longer (log_of accepted) (was.log story tells)));
+  pub behind_is : behind ≡ next outcome.accepted batch
+  behind_is = ap (λ (n : ℕ). let b : Logged = record { first = n + 1; ops = batch } in b) (was.sequence ∙ was.counted)
+
+  durable_is : (sync : Bool) → (if sync then length (in_sequence 1 outcome.accepted ++ next outcome.accepted batch ∷ []) else outcome.after.durable) ≡ (with_batch outcome.after sync batch).durable
+  durable_is true = length-append (in_sequence 1 outcome.accepted) (next outcome.accepted batch ∷ []) ∙ ap (λ (n : ℕ). n + 1) (numbered_length 1 outcome.accepted ∙ sym was.batches)
+  durable_is false = refl
+
+  -- the log of the disk, where it told one
+  pub logged : (wal : (logs : Logs old.disk.told old.log outcome.accepted outcome.after.durable) → (story : Story) × (new.disk.told ≡ Some story)
+      × IsLeft {T = Unit {0}} old.log (in_sequence 1 outcome.accepted) behind outcome.after.durable sync (Ok tt) (state_of story))
+      → new.log ≡ old.log → (story : Story) → start ≡ Some story → Logs new.disk.told new.log after.accepted after.after.durable
+  logged wal same story tells =
+      let left = wal (was.log story tells) in record {
+        story = left.0;
+        tells = left.1;
+        wal =
+            subst (λ (p : List ℕ). IsWal (state_of left.0) p (in_sequence 1 after.accepted) after.after.durable) (sym same)
+            (subst (λ (bs : List Logged). IsWal (state_of left.0) old.log bs after.after.durable) (sym (accepted_push outcome.accepted batch))
+            (subst (IsWal (state_of left.0) old.log (in_sequence 1 outcome.accepted ++ next outcome.accepted batch ∷ [])) (durable_is sync)
+            (subst (λ (b : Logged). IsWal (state_of left.0) old.log (in_sequence 1 outcome.accepted ++ b ∷ []) (if sync then length (in_sequence 1 outcome.accepted ++ b ∷ []) else outcome.after.durable)) behind_is left.2)));
       }
 
-  -- a batch that a limit refuses changes nothing
-  pub unput : (r : BatchRefusal) → refused_in {A = Unit {0}} (Err r) ≡ refusal_of [] (ops.Put key value) → IsUnput start old old key value (limit_error r)
-  unfolding refused_in
-  unput (refusals.BatchTooLarge what kept limit) is = (sym is, refl)
-  unput refusals.NoMemory is = tt
+  -- the store stands behind the batch that it wrote
+  pub stands_written : (log : (story : Story) → start ≡ Some story → Logs new.disk.told new.log after.accepted after.after.durable) → new.contents ≡ fold applied old.contents batch → new.sequence ≡ old.sequence + length batch
+      → new.len ≡ old.len + length (record_text (old.len % 32768) (batch_text (old.sequence + 1) batch)) → Stands start new after
+  stands_written log contents sequence len = record {
+    contents = contents ∙ ap (λ (m : Contents). fold applied m batch) was.contents;
+    sequence = sequence ∙ ap (λ (n : ℕ). n + length batch) was.sequence;
+    counted = ap (λ (n : ℕ). n + length batch) was.counted ∙ sym (sequence_push 0 outcome.accepted batch);
+    batches = ap (λ (n : ℕ). n + 1) was.batches ∙ sym (length-append outcome.accepted (batch ∷ []));
+    len = len ∙ (λ i. was.len i + length (record_text (was.len i % 32768) (text_of (behind_is i)))) ∙ sym (log_push outcome.accepted batch);
+    log = log;
+  }
 
-  pub accepted_put : refused_in {A = Unit {0}} (Ok tt) ≡ refusal_of [] (ops.Put key value) → refusal_of [] (ops.Put key value) ≡ None
-  unfolding refused_in
-  accepted_put is = sym is
+-- ---- a sync
 
-  -- the same by the answer
-  pub unput_by : (result : Result ℕ PutError) (error : PutError) → IsErr result × IsErrAnd result (λ e. e ≡ error) → IsUnput start old old key value error → Puts start old old outcome key value result
-  unput_by (Ok last) error is h = absurd is.1
-  unput_by (Err e) error is h = subst (IsUnput start old old key value) (sym is.1) h
+module _ (s : State) (path : List ℕ) (batches : List Logged) (durable : ℕ) (wal : IsWal s path batches durable) where
+  -- each batch is durable once the file was synced
+  pub wal_synced : IsWal (later s (file_synced path s)) path batches (length batches)
+  wal_synced = record {
+    id = wal.id;
+    file = sure wal.file;
+    kept = kept_synced s path wal.id wal.file wal.kept;
+    text = append-nil (bytes_of wal.file) ∙ wal.text;
+    within = omega arith;
+    synced = omega (arith, ap (λ (bs : List Logged). length (wal_text bs)) (take_all (length batches) batches (omega arith)), ap length wal.text);
+    each = wal.each;
+  }
+
+module _ (s : State) (path : List ℕ) (batches : List Logged) (wal : IsWal s path batches (length batches)) where
+  whole : length (bytes_of wal.file) ≤ length wal.file.synced
+  whole = omega (arith, wal.synced, ap length wal.text, ap (λ (bs : List Logged). length (wal_text bs)) (take_all (length batches) batches (omega arith)))
+
+  -- a log whose batches are durable is whole after each crash
+  pub wal_images : (t : Tree) → IsImage s t → bytes_at t path ≡ Some (wal_text batches)
+  wal_images t image =
+      let held = kept_image s path wal.id wal.file wal.kept t image in
+      let front = cut_front wal.file held.bytes held.cut in
+      held.is ∙ ap (λ (b : List ℕ). Some b) (front.is ∙ take_all front.count (bytes_of wal.file) (omega (arith, whole, front.enough)) ∙ wal.text)
+
+  pub wal_now : bytes_at (tree_now s) path ≡ Some (wal_text batches)
+  wal_now = wal_images (tree_now s) (reads_image s)
+
+-- the same of the log that a store stands on
+module _ (start : Option Story) (old new : Shown) (outcome : Outcome) (was : Stands start old outcome) where
+  pub logs_synced : Makes old.disk.told (file_synced old.log) new.disk.told → new.log ≡ old.log → (story : Story) → start ≡ Some story → Logs new.disk.told new.log outcome.accepted outcome.after.batches
+  logs_synced makes same story tells =
+      let logs = was.log story tells in record {
+        story = pushed (file_synced old.log) logs.story;
+        tells = makes ∙ ap (option_map (pushed (file_synced old.log))) logs.tells;
+        wal =
+            subst (λ (p : List ℕ). IsWal (state_of (pushed (file_synced old.log) logs.story)) p (in_sequence 1 outcome.accepted) outcome.after.batches) (sym same)
+            (subst (IsWal (state_of (pushed (file_synced old.log) logs.story)) old.log (in_sequence 1 outcome.accepted)) (numbered_length 1 outcome.accepted ∙ sym was.batches)
+            (subst (λ (s : State). IsWal s old.log (in_sequence 1 outcome.accepted) (length (in_sequence 1 outcome.accepted))) (sym (state_push logs.story (file_synced old.log (state_of logs.story))))
+            (wal_synced (state_of logs.story) old.log (in_sequence 1 outcome.accepted) outcome.after.durable logs.wal)));
+      }
+
+  pub stands_synced : ((story : Story) → start ≡ Some story → Logs new.disk.told new.log outcome.accepted outcome.after.batches) → new.contents ≡ old.contents → new.sequence ≡ old.sequence → new.len ≡ old.len → Stands start new (made_durable outcome)
+  stands_synced log contents sequence len = record {
+    contents = contents ∙ was.contents;
+    sequence = sequence ∙ was.sequence;
+    counted = was.counted;
+    batches = was.batches;
+    len = len ∙ was.len;
+    log = log;
+  }
+
+-- a log whose batches are durable keeps its text
+pub keeps : (told : Option Story) (path : List ℕ) (accepted : List (List Op)) (durable : ℕ) → durable ≡ length accepted → Logs told path accepted durable → Keeps told path (log_of accepted)
+unfolding log_of
+keeps told path accepted durable all logs =
+    let wal = subst (IsWal (state_of logs.story) path (in_sequence 1 accepted)) (all ∙ sym (numbered_length 1 accepted)) logs.wal in record {
+      story = logs.story;
+      tells = logs.tells;
+      now = wal_now (state_of logs.story) path (in_sequence 1 accepted) wal;
+      images = wal_images (state_of logs.story) path (in_sequence 1 accepted) wal;
+    }
+
+pub log_len : (accepted : List (List Op)) → length (log_of accepted) ≡ length (wal_text (in_sequence 1 accepted))
+unfolding log_of
+log_len accepted = refl
+
+pub log_none : length (log_of []) ≡ 0
+unfolding log_of
+log_none = refl

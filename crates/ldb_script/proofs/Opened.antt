@@ -8,8 +8,8 @@ use Rattle.lsm_names.specs.Numbers.{padded_decimal}
 use Rattle.std.specs.Fmt.{digits}
 use Rattle.lsm_names.specs.declared.file_names.FileName.TheVariants.{Log}
 use Rattle.lsm_disk.specs.Names.{Node, Folder_node, Names, stands, is_folder, is_folder_node}
-use Rattle.lsm_disk.specs.State.{State, Story, Seen, state_of, names_now, after, created, folder_made}
-use Rattle.lsm_disk.specs.Images.{tree_now, bytes_at}
+use Rattle.lsm_disk.specs.State.{State, Story, Seen, Change, state_of, names_now, after, folder_made}
+use Rattle.lsm_disk.specs.Images.{Tree}
 use Rattle.lsm_disk.specs.Tree.{IsLawful, TellsLawful}
 use Rattle.lsm_disk.specs.Refusals.{no_room, no_room_in}
 use Rattle.lsm_disk.specs.Answers.{Makes, pushed, RefusesBy, HasRisen}
@@ -17,9 +17,11 @@ use Rattle.lsm_disk.specs.declared.calls.DiskCall.{DiskCall}
 use Rattle.lsm_disk.specs.declared.calls.DiskError.{DiskError}
 use Rattle.lsm_disk.specs.declared.calls.DiskError.TheVariants.{Fault, NotThere, Exists, NoLinks, NotEmpty, Short, NoMemory}
 use Rattle.lsm_disk.proofs.Tree.{cut_append, made_free}
-use Rattle.lsm_disk.proofs.Now.{bytes_created, folder_made_stands}
+use Rattle.lsm_disk.proofs.Now.{folder_made_stands}
 use Rattle.lsm_disk.proofs.Runs.{state_push}
-use Rattle.ldb_script.specs.Stored.{Holds, log_path}
+use Rattle.ldb_script.specs.Stored.{Logs, log_path}
+use Rattle.lsm_disk.specs.Goes.{Went}
+use Rattle.lsm_wal.specs.Standing.{IsWal}
 use Rattle.ldb_script.specs.Opening.{IsFree, IsUnopened, open_error}
 
 pub log_spelled : (folder : List ℕ) → folder ++ 47 ∷ spelled (Log 2) ≡ log_path folder
@@ -43,15 +45,11 @@ tells_then : (told new : Option Story) (story : Story) (c : State → _) → tol
 tells_then told new story c tells makes = makes ∙ ap (option_map (pushed c)) tells
 
 -- the log is there, and empty
-pub log_made : (before mid after : Option Story) (folder : List ℕ) (story : Story) → before ≡ Some story → Makes before (folder_made folder) mid → Makes mid (created (log_path folder)) after → Holds after (log_path folder) []
-log_made before mid after folder story tells makes creates =
-    let first = tells_then before mid story (folder_made folder) tells makes in
-    record {
-      story = pushed (created (log_path folder)) (pushed (folder_made folder) story);
-      tells = tells_then mid after (pushed (folder_made folder) story) (created (log_path folder)) first creates;
-      now = ap (λ (s : State). bytes_at (tree_now s) (log_path folder)) (state_push (pushed (folder_made folder) story) (created (log_path folder) (state_of (pushed (folder_made folder) story))))
-          ∙ bytes_created (state_of (pushed (folder_made folder) story)) (log_path folder);
-    }
+pub logs_made : (before mid after : Option Story) (folder : List ℕ) (story : Story) (q : Change → Type 0) (P : Story → State → Tree → Type 0) → before ≡ Some story → Makes before (folder_made folder) mid
+    → ((then : Story) → mid ≡ Some then → Went then after q (P then) (λ s. IsWal s (log_path folder) [] 0)) → Logs after (log_path folder) [] 0
+logs_made before mid after folder story q P tells makes creates =
+    let w = creates (pushed (folder_made folder) story) (tells_then before mid story (folder_made folder) tells makes) in
+    record { story = w.story; tells = w.tells; wal = w.now }
 
 -- the log's name in the new folder is free
 log_room : (folder : List ℕ) (story : Story) → IsLawful (state_of story) → no_room folder (state_of story) ≡ None → no_room (log_path folder) (state_of (pushed (folder_made folder) story)) ≡ None

@@ -7,17 +7,18 @@ use Rattle.std.proofs.lemmas.List.Elements.{All-nil}
 use Rattle.lsm_io.specs.Causes.{Rose}
 use Rattle.lsm_disk.specs.State.{Seen, Story}
 use Rattle.ldb_script.specs.Input.{IsInside}
-use Rattle.ldb_script.specs.Plain.{Outcome, told, empty}
+use Rattle.ldb_script.specs.Plain.{Outcome, told, empty, both}
 use Rattle.ldb_script.specs.Printed.{with_newline, bad_line}
-use Rattle.ldb_script.specs.Stored.{Shown, Stands, Holds, log_of}
-use Rattle.ldb_script.specs.Opening.{SeenStay, IsFree, IsOpened, IsUnopened}
-use Rattle.ldb_script.specs.Run.{Stream, Met, now, Reached, Says, Finished, StoppedAt, ReadFailed, IsFound, IsTaken, RefusedBy, CountsStay, is_faultless, IsRun}
-use Rattle.ldb_script.specs.Doing.{Underway, Ran, Spoke, EndsWith, BehindIs, unopened_end}
+use Rattle.ldb_script.specs.Stored.{Shown, Stands, Logs, log_path}
+use Rattle.ldb_script.specs.Opening.{SeenStay, IsFree, IsOpened, IsUnopened, made_durable}
+use Rattle.ldb_script.specs.Run.{Stream, Met, now, Reached, Says, Finished, StoppedAt, ReadFailed, WriteFailed, IsFound, IsTaken, RefusedBy, CountsStay, is_faultless, IsRun}
+use Rattle.ldb_script.specs.Doing.{Underway, Ran, Closed, Spoke, EndsWith, BehindIs, unopened_end}
 use Rattle.ldb_script.specs.declared.ending.Ended.{Ended}
 use Rattle.ldb_script.specs.declared.ending.Ended.TheVariants as ended
 use Rattle.ldb_script.specs.declared.store.OpenError.{OpenError}
 use Rattle.ldb_script.specs.declared.store.OpenError.TheVariants as open_errors
 use Rattle.ldb_script.proofs.Opened.{rose_later}
+use Rattle.ldb_script.proofs.Logs.{keeps}
 use Rattle.ldb_script.proofs.Turning.{joined_none, output_none, reached, fails, ends_behind}
 
 -- before the first line
@@ -54,10 +55,11 @@ module _ (start : Option Story) (first : Met) (source source' sink : Stream) (sh
     bad = inr (inr (record { full = full; some = omega arith }));
     is_number = h.0 ∙ omega (arith, full);
     written = under.written;
+    stands = under.stands;
   }
   over ended.ReadFault h rose =
       fails start first source source' sink sink shown shown actors actors done outcome (length done + 1) under refl later (omega arith) stay []
-      (record { bytes = Consumes-kept source.bytes source.bytes source'.bytes [] (Consumes-nil source.bytes) h; inside = All-nil (λ (b : ℕ). _); short = omega arith }) (rose refl) refl
+      (record { bytes = Consumes-kept source.bytes source.bytes source'.bytes [] (Consumes-nil source.bytes) h; inside = All-nil (λ (b : ℕ). _); short = omega arith }) (rose refl) refl refl
   over ended.WriteFault h rose = absurd h
   over ended.DiskFault h rose = absurd h
   over ended.Found h rose = absurd h
@@ -99,7 +101,7 @@ module _ (folder : List ℕ) (m : Met) (status : ℕ) (counted : CountsStay m) w
     counts = counted;
   }
 
-  as_bad : status ≡ 2 → (IsTaken folder m.disk_before → ⊥) → StoppedAt m → IsRun folder m status
+  as_bad : status ≡ 2 → (IsTaken folder m.disk_before → ⊥) → StoppedAt folder m → IsRun folder m status
   as_bad is free stopped = record {
     finished = λ e. absurd (omega (arith, is, e));
     bad_line = λ _. stopped;
@@ -112,7 +114,7 @@ module _ (folder : List ℕ) (m : Met) (status : ℕ) (counted : CountsStay m) w
     counts = counted;
   }
 
-  as_read : status ≡ 3 → (IsTaken folder m.disk_before → ⊥) → ReadFailed m → IsRun folder m status
+  as_read : status ≡ 3 → (IsTaken folder m.disk_before → ⊥) → ReadFailed folder m → IsRun folder m status
   as_read is free failed = record {
     finished = λ e. absurd (omega (arith, is, e));
     bad_line = λ e. absurd (omega (arith, is, e));
@@ -125,12 +127,12 @@ module _ (folder : List ℕ) (m : Met) (status : ℕ) (counted : CountsStay m) w
     counts = counted;
   }
 
-  as_write : status ≡ 4 → (IsTaken folder m.disk_before → ⊥) → Rose m.sink_before.faults m.sink_after.faults → IsRun folder m status
-  as_write is free rose = record {
+  as_write : status ≡ 4 → (IsTaken folder m.disk_before → ⊥) → WriteFailed folder m → IsRun folder m status
+  as_write is free failed = record {
     finished = λ e. absurd (omega (arith, is, e));
     bad_line = λ e. absurd (omega (arith, is, e));
     read = λ e. absurd (omega (arith, is, e));
-    write = λ _. rose;
+    write = λ _. failed;
     disk = λ e. absurd (omega (arith, is, e));
     refused = λ e. absurd (omega (arith, is, e));
     taken = λ t. absurd (free t);
@@ -200,7 +202,10 @@ module _ (folder : List ℕ) (before : Seen) (opened shown : Shown) (source sour
   reached_too : (done : List (List ℕ)) (part : List ℕ) (outcome : Outcome) → Reached ran done part outcome → Reached m done part outcome
   reached_too done part outcome r = record { read = r.read; inside = r.inside; few = r.few; output = r.output }
 
-  pub ends : (e : Ended) → Ran before.told ran shown e → EndsWith folder sink' last e status → IsRun folder m status
+  logged : (outcome : Outcome) → Stands before.told shown outcome → (story : Story) → before.told ≡ Some story → Logs shown.disk.told (log_path folder) outcome.accepted outcome.after.durable
+  logged outcome stands story tells = subst (λ (p : List ℕ). Logs shown.disk.told p outcome.accepted outcome.after.durable) (log ∙ is_opened.log) (stands.log story tells)
+
+  pub ends : (e : Ended) → Closed before.told ran shown e → EndsWith folder sink' last e status → IsRun folder m status
   ends ended.Finished h w = as_finished folder m status all_counts w.0 free (record {
     bytes = h.bytes;
     read = h.read;
@@ -209,7 +214,9 @@ module _ (folder : List ℕ) (before : Seen) (opened shown : Shown) (source sour
     outcome = h.outcome;
     output = h.output;
     written = subst (λ (s : Stream). Appends sink.bytes s.bytes h.outcome.text) (sym w.1) h.written;
-    log = λ story tells. subst (λ (p : List ℕ). Holds shown.disk.told p (log_of h.outcome.accepted)) (log ∙ is_opened.log) (h.stands.log story tells);
+    log = λ story tells.
+        keeps shown.disk.told (log_path folder) h.outcome.accepted h.outcome.after.batches h.stands.batches
+        (logged (made_durable h.outcome) h.stands story tells);
   })
   ends (ended.BadLine number) h (inl (is, spoke)) = as_bad folder m status all_counts is free (record {
     done = h.done;
@@ -218,6 +225,7 @@ module _ (folder : List ℕ) (before : Seen) (opened shown : Shown) (source sour
     reached = reached_too h.done h.part h.outcome h.reached;
     bad = h.bad;
     says = says last m sink' h.outcome.text (bad_line (length h.done + 1)) refl counted.sink h.written (subst (λ (n : ℕ). Spoke sink' last (bad_line n)) h.is_number spoke);
+    log = logged h.outcome h.stands;
   })
   ends (ended.BadLine number) h (inr none) = as_no_memory folder m status all_counts none
   ends ended.ReadFault h w = as_read folder m status all_counts w.0 free (record {
@@ -228,8 +236,24 @@ module _ (folder : List ℕ) (before : Seen) (opened shown : Shown) (source sour
     reached = reached_too h.done h.part h.outcome h.reached;
     inside = h.inside;
     says = says last m sink' h.outcome.text (with_newline (codes "read fault")) refl counted.sink h.written w.1;
+    log = logged h.outcome h.stands;
   })
-  ends ended.WriteFault h is = as_write folder m status all_counts is free (omega (arith, h, later))
+  ends ended.WriteFault h w = as_write folder m status all_counts w.0 free (record {
+    rose = omega (arith, h.rose, later);
+    done = h.done;
+    part = h.part;
+    outcome = h.outcome;
+    reached = reached_too h.done h.part h.outcome h.reached;
+    line = h.line;
+    ends = h.ends;
+    next = h.next;
+    does = h.does;
+    front = h.front;
+    rest = h.rest;
+    parts = h.parts;
+    took = subst (λ (s : Stream). Appends sink.bytes s.bytes (h.outcome.text ++ h.front)) (sym w.1) h.took;
+    log = logged (both h.outcome h.next) h.stands;
+  })
   ends ended.DiskFault h is = as_disk folder m status all_counts is (rose_later before.faults opened.disk.faults shown.disk.faults opening.faults h)
   ends (ended.Changed call path) h (inl is) = as_refused folder m status all_counts is (record {
     cause = inr (rose_later before.refusals opened.disk.refusals shown.disk.refusals opening.refusals h.0);

@@ -1,48 +1,39 @@
 -- What a command's answer leaves.
-use Rattle.std.specs.Prelude.{◌≡◌, ◌⊎◌, ℕ, ◌%◌, List, [], ◌++◌, length, Option, Some, None, Result, Ok, Err}
+use Rattle.std.specs.Prelude.{◌≡◌, ◌⊎◌, ℕ, Bool, List, [], ◌++◌, length, Option, Some, None, Result, Ok, Err}
 use Rattle.std.proofs.Common.{inl, inr, refl, sym, ap, subst, ◌∙◌, append-nil}
 use Rattle.std.specs.FinMap as finite
 use Rattle.lsm_bytes.specs.declared.no_memory.NoMemory.{NoMemory as Lacking}
 use Rattle.lsm_disk.specs.State.{Story}
 use Rattle.lsm_rows.specs.declared.operations.Op.{Op}
-use Rattle.lsm_rows.specs.declared.operations.Op.TheVariants as ops
-use Rattle.lsm_rows.specs.Limits.{Refused, refusal_of}
+use Rattle.lsm_rows.specs.Limits.{Refused}
 use Rattle.lsm_rows.specs.Replay.{Contents, sequence_after}
-use Rattle.ldb_script.specs.Printed.{sequence_line, value_line, too_large_line}
+use Rattle.ldb_script.specs.Printed.{sequence_line, value_line, ok_line, too_large_line}
 use Rattle.std.specs.Io.KnownBytes.{Appends}
 use Rattle.std.proofs.KnownBytes.{Appends-nil}
-use Rattle.ldb_script.specs.Plain.{Outcome, Plain, Answers, told, both, written, put_batch, or_later, first_refusal, named, with_actor, line_at}
+use Rattle.ldb_script.specs.Plain.{Outcome, Plain, Answers, told, both, written, all_durable, first_refusal, named, with_actor, line_at}
 use Rattle.ldb_script.specs.Run.{Stream}
 use Rattle.ldb_script.specs.declared.line.Line.TheVariants.{Blank, Ask}
-use Rattle.ldb_script.specs.Stored.{Shown, Stands, Holds, log_of}
-use Rattle.ldb_script.specs.Opening.{Puts, IsUnput}
-use Rattle.ldb_script.specs.Doing.{AnsweredOr, MadeOr, UnputOr, Breaks, ServedOr, IsDone, DoneOr}
+use Rattle.ldb_script.specs.Stored.{Shown, Stands, Logs, log_of}
+use Rattle.ldb_script.specs.Opening.{Writes, Syncs, IsBroken, made_durable}
+use Rattle.ldb_script.specs.Doing.{AnsweredOr, MadeOr, broken_end, Breaks, ServedOr, IsDone, DoneOr}
 use Rattle.ldb_script.specs.declared.line.Command.{Command}
-use Rattle.ldb_script.specs.declared.line.Command.TheVariants.{Put, Get}
+use Rattle.ldb_script.specs.declared.line.Command.TheVariants.{Write, Sync, Get}
 use Rattle.ldb_script.specs.declared.ending.Ended.{Ended}
 use Rattle.ldb_script.specs.declared.ending.Ended.TheVariants as ended
-use Rattle.ldb_script.specs.declared.store.PutError.{PutError}
-use Rattle.ldb_script.specs.declared.store.PutError.TheVariants as put_errors
+use Rattle.ldb_script.specs.declared.store.StoreError.{StoreError}
+use Rattle.ldb_script.specs.declared.store.StoreError.TheVariants as store_errors
 
-or_none : (r : Option Refused) → or_later r None ≡ r
-or_none None = refl
-or_none (Some refused) = refl
-
--- a batch of one put is refused where its put is
-pub refused_alone : (key value : List ℕ) → first_refusal [] (put_batch key value) ≡ refusal_of [] (ops.Put key value)
-refused_alone key value = or_none (refusal_of [] (ops.Put key value))
-
--- a line that changes nothing leaves the store where it stood
-pub stands_told : (start : Option Story) (shown : Shown) (outcome : Outcome) (after : Plain) (text : List ℕ) → Stands start shown outcome → after.contents ≡ outcome.after.contents → after.sequence ≡ outcome.after.sequence
-    → Stands start shown (both outcome (told after text))
-stands_told start shown outcome after text was contents sequence =
+-- a line that accepts nothing leaves the store where it stood
+pub stands_told : (start : Option Story) (shown : Shown) (outcome : Outcome) (text : List ℕ) → Stands start shown outcome → Stands start shown (both outcome (told outcome.after text))
+stands_told start shown outcome text was =
     let none : outcome.accepted ++ [] ≡ outcome.accepted = append-nil outcome.accepted in
     record {
-      contents = was.contents ∙ sym contents;
-      sequence = was.sequence ∙ sym sequence;
-      counted = sequence ∙ was.counted ∙ ap (sequence_after 0) (sym none);
-      offset = was.offset ∙ ap (λ (a : List (List Op)). length (log_of a) % 32768) (sym none);
-      log = λ story tells. subst (λ (a : List (List Op)). Holds shown.disk.told shown.log (log_of a)) (sym none) (was.log story tells);
+      contents = was.contents;
+      sequence = was.sequence;
+      counted = was.counted ∙ ap (sequence_after 0) (sym none);
+      batches = was.batches ∙ ap (λ (a : List (List Op)). length a) (sym none);
+      len = was.len ∙ ap (λ (a : List (List Op)). length (log_of a)) (sym none);
+      log = λ story tells. subst (λ (a : List (List Op)). Logs shown.disk.told shown.log a outcome.after.durable) (sym none) (was.log story tells);
     }
 
 module _ (start : Option Story) (old new : Shown) (outcome : Outcome) (was : Stands start old outcome) where
@@ -58,25 +49,27 @@ module _ (start : Option Story) (old new : Shown) (outcome : Outcome) (was : Sta
   made_or (Ok t) text is = inl (ap Ok (is t refl))
   made_or (Err none) text is = inr (none, refl)
 
-  pub put_answers : (key value : List ℕ) (last : ℕ) (made : Result (List ℕ) Lacking) (result : Result (List ℕ) Ended) → Puts start old new outcome key value (Ok last)
-      → ((t : List ℕ) → made ≡ Ok t → t ≡ sequence_line last) → MadeOr made result → AnsweredOr start old new outcome (Put key value) result
-  put_answers key value last made result puts is h =
-      made_by (Put key value) (sequence_line last) (written outcome.after (put_batch key value) None) result
-      (sym (ap (written outcome.after (put_batch key value)) (refused_alone key value ∙ puts.0))) (ap sequence_line puts.1) puts.2 made (made_or made (sequence_line last) is) h
+  pub write_answers : (durable : Bool) (batch : List Op) (last : ℕ) (made : Result (List ℕ) Lacking) (result : Result (List ℕ) Ended) → first_refusal [] batch ≡ None → Writes start old new outcome batch durable (Ok last)
+      → ((t : List ℕ) → made ≡ Ok t → t ≡ sequence_line last) → MadeOr made result → AnsweredOr start old new outcome (Write durable batch) result
+  write_answers durable batch last made result fits writes is h =
+      made_by (Write durable batch) (sequence_line last) (written outcome.after durable batch None) result
+      (sym (ap (written outcome.after durable batch) fits)) (ap sequence_line writes.0) writes.1 made (made_or made (sequence_line last) is) h
 
-  pub unput_answers : (key value : List ℕ) (error : PutError) (result : Result (List ℕ) Ended) → IsUnput start old new key value error → UnputOr error result → AnsweredOr start old new outcome (Put key value) result
-  unput_answers key value (put_errors.BatchTooLarge what kept limit) result unput (inl ok) =
-      let refused : Refused = record { what = what; kept = kept; limit = limit } in
-      subst (AnsweredOr start old new outcome (Put key value)) (sym ok) (record {
-        next = told outcome.after (too_large_line refused);
-        answers = sym (ap (written outcome.after (put_batch key value)) (refused_alone key value ∙ unput.0));
-        is_text = refl;
-        stands = subst (λ (s : Shown). Stands start s (both outcome (told outcome.after (too_large_line refused)))) (sym unput.1) (stands_told start old outcome outcome.after (too_large_line refused) was refl refl);
-      })
-  unput_answers key value (put_errors.BatchTooLarge what kept limit) result unput (inr none) = subst (AnsweredOr start old new outcome (Put key value)) (sym none) tt
-  unput_answers key value put_errors.DiskFault result unput is = subst (AnsweredOr start old new outcome (Put key value)) (sym is) unput
-  unput_answers key value (put_errors.Changed call path) result unput is = subst (AnsweredOr start old new outcome (Put key value)) (sym is) unput
-  unput_answers key value put_errors.NoMemory result unput is = subst (AnsweredOr start old new outcome (Put key value)) (sym is) tt
+  pub too_large_answers : (durable : Bool) (batch : List Op) (refused : Refused) (made : Result (List ℕ) Lacking) (result : Result (List ℕ) Ended) → new ≡ old → first_refusal [] batch ≡ Some refused
+      → ((t : List ℕ) → made ≡ Ok t → t ≡ too_large_line refused) → MadeOr made result → AnsweredOr start old new outcome (Write durable batch) result
+  too_large_answers durable batch refused made result same is_refused is h =
+      made_by (Write durable batch) (too_large_line refused) (told outcome.after (too_large_line refused)) result (sym (ap (written outcome.after durable batch) is_refused)) refl
+      (subst (λ (s : Shown). Stands start s (both outcome (told outcome.after (too_large_line refused)))) (sym same) (stands_told start old outcome (too_large_line refused) was))
+      made (made_or made (too_large_line refused) is) h
+
+  pub sync_answers : (made : Result (List ℕ) Lacking) (result : Result (List ℕ) Ended) → Syncs start old new outcome (Ok tt) → ((t : List ℕ) → made ≡ Ok t → t ≡ ok_line) → MadeOr made result → AnsweredOr start old new outcome Sync result
+  sync_answers made result syncs is h =
+      made_by Sync ok_line (told (all_durable outcome.after) ok_line) result refl refl (stands_told start new (made_durable outcome) ok_line syncs) made (made_or made ok_line is) h
+
+  pub broken_answers : (command : Command) (error : StoreError) (e : Ended) → IsBroken start old new error → e ≡ broken_end error → AnsweredOr start old new outcome command (Err e)
+  broken_answers command store_errors.DiskFault e broken is = subst (Breaks start old new) (sym is) broken
+  broken_answers command (store_errors.Changed call path) e broken is = subst (Breaks start old new) (sym is) broken
+  broken_answers command store_errors.NoMemory e broken is = subst (Breaks start old new) (sym is) tt
 
   pub get_answers : (key : List ℕ) (value : Option (List ℕ)) (made : Result (List ℕ) Lacking) (result : Result (List ℕ) Ended) → new ≡ old → value ≡ finite.get old.contents key
       → ((t : List ℕ) → made ≡ Ok t → t ≡ value_line value) → MadeOr made result → AnsweredOr start old new outcome (Get key) result
@@ -84,7 +77,7 @@ module _ (start : Option Story) (old new : Shown) (outcome : Outcome) (was : Sta
       let text : List ℕ = value_line (finite.get outcome.after.contents key) in
       let e : value_line value ≡ text = ap value_line (is_value ∙ ap (λ (m : Contents). finite.get m key) was.contents) in
       made_by (Get key) text (told outcome.after text) result refl refl
-      (subst (λ (s : Shown). Stands start s (both outcome (told outcome.after text))) (sym same) (stands_told start old outcome outcome.after text was refl refl))
+      (subst (λ (s : Shown). Stands start s (both outcome (told outcome.after text))) (sym same) (stands_told start old outcome text was))
       made (made_or made text (λ t ok. is t ok ∙ e)) h
 
 -- ---- printed
@@ -101,13 +94,14 @@ module _ (start : Option Story) (before after : Stream) (old new : Shown) (outco
   unserved ended.WriteFault h = absurd h
   unserved ended.Found h = absurd h
 
-written_actors : (plain : Plain) (batch : List Op) (refused : Option Refused) → (written plain batch refused).after.actors ≡ plain.actors
-written_actors plain batch None = refl
-written_actors plain batch (Some refused) = refl
+written_actors : (plain : Plain) (durable : Bool) (batch : List Op) (refused : Option Refused) → (written plain durable batch refused).after.actors ≡ plain.actors
+written_actors plain durable batch None = refl
+written_actors plain durable batch (Some refused) = refl
 
 -- a command names nobody
 answers_actors : (plain : Plain) (command : Command) (next : Outcome) → Answers plain command next → next.after.actors ≡ plain.actors
-answers_actors plain (Put key value) next is = ap (λ (o : Outcome). o.after.actors) is ∙ written_actors plain (put_batch key value) (first_refusal [] (put_batch key value))
+answers_actors plain (Write durable batch) next is = ap (λ (o : Outcome). o.after.actors) is ∙ written_actors plain durable batch (first_refusal [] batch)
+answers_actors plain Sync next is = ap (λ (o : Outcome). o.after.actors) is
 answers_actors plain (Get key) next is = ap (λ (o : Outcome). o.after.actors) is
 
 -- the same contents and sequence, where an actor was named
@@ -115,7 +109,7 @@ abbrev pub with_named : Outcome → List ℕ → Outcome
 with_named outcome actor = record { text = outcome.text; accepted = outcome.accepted; after = named outcome.after actor }
 
 pub stands_named : (start : Option Story) (shown : Shown) (outcome : Outcome) (actor : List ℕ) → Stands start shown outcome → Stands start shown (with_named outcome actor)
-stands_named start shown outcome actor was = record { contents = was.contents; sequence = was.sequence; counted = was.counted; offset = was.offset; log = was.log }
+stands_named start shown outcome actor was = record { contents = was.contents; sequence = was.sequence; counted = was.counted; batches = was.batches; len = was.len; log = was.log }
 
 module _ (start : Option Story) (before after : Stream) (old new : Shown) (actors : List (List ℕ)) (outcome : Outcome) (line : List ℕ) (number : ℕ) where
   -- a line that does nothing
@@ -124,7 +118,7 @@ module _ (start : Option Story) (before after : Stream) (old new : Shown) (actor
     next = told outcome.after [];
     does = record { line = Blank; is_line = sym is; prints = refl };
     took = subst (λ (s : Stream). Appends before.bytes s.bytes []) same (Appends-nil before.bytes);
-    stands = subst (λ (s : Shown). Stands start s (both outcome (told outcome.after []))) (sym kept) (stands_told start old outcome outcome.after [] was refl refl);
+    stands = subst (λ (s : Shown). Stands start s (both outcome (told outcome.after []))) (sym kept) (stands_told start old outcome [] was);
     named = names;
   }
 
@@ -138,7 +132,13 @@ module _ (start : Option Story) (before after : Stream) (old new : Shown) (actor
     stands = served.stands;
     named = names ∙ sym (answers_actors (named outcome.after actor) command served.next served.answers);
   }
-  asked_done actor command (Err ended.WriteFault) is names served = served
+  asked_done actor command (Err ended.WriteFault) is names served = record {
+    next = served.next;
+    does = record { line = Ask actor command; is_line = sym is; prints = served.answers };
+    spoke = served.spoke;
+    rose = served.rose;
+    stands = served.stands;
+  }
   asked_done actor command (Err ended.DiskFault) is names served = served
   asked_done actor command (Err (ended.Changed call path)) is names served = served
   asked_done actor command (Err ended.NoMemory) is names served = tt

@@ -120,6 +120,9 @@ module _ (start : Option Story) (first : Met) (source source' sink sink' : Strea
   pub silent : sink' ≡ sink → Appends first.sink_before.bytes sink'.bytes outcome.text
   silent same = subst (λ (s : Stream). Appends first.sink_before.bytes s.bytes outcome.text) (sym same) under.written
 
+  still : new ≡ old → Stands start new outcome
+  still kept = subst (λ (s : Shown). Stands start s outcome) (sym kept) under.stands
+
   module _ (line : List ℕ) where
     -- one more line was read and done
     pub goes_on : number ≤ 10000000 → IsWhole source.bytes source'.bytes line → IsDone start sink sink' new actors' outcome line → TurnedOr start m new actors' done (Ok tt)
@@ -152,8 +155,24 @@ module _ (start : Option Story) (first : Met) (source source' sink sink' : Strea
       bad = inl (record { line = line; ends = ends; inside = inside; unknown = h.1 });
       is_number = h.0 ∙ is_number;
       written = silent h.2;
+      stands = still h.3;
     }
-    stops part read ends inside ended.WriteFault h = rose_later first.sink_before.faults sink.faults sink'.faults under.counts.sink h
+    stops part read ends inside ended.WriteFault h = record {
+      done = done;
+      line = line;
+      part = part;
+      outcome = outcome;
+      reached = reached part read;
+      ends = ends;
+      next = h.next;
+      does = h.does;
+      front = h.spoke.front;
+      rest = h.spoke.rest;
+      parts = h.spoke.parts;
+      took = Appends-trans first.sink_before.bytes sink.bytes sink'.bytes outcome.text h.spoke.front under.written h.spoke.took;
+      rose = rose_later first.sink_before.faults sink.faults sink'.faults under.counts.sink h.rose;
+      stands = h.stands;
+    }
     stops part read ends inside ended.DiskFault h = rose_later first.disk_before.faults old.disk.faults new.disk.faults under.counts.faults h
     stops part read ends inside (ended.Changed call path) h = (rose_later first.disk_before.refusals old.disk.refusals new.disk.refusals under.counts.refusals h.0, h.1)
     stops part read ends inside ended.NoMemory h = tt
@@ -186,8 +205,8 @@ module _ (start : Option Story) (first : Met) (source source' sink sink' : Strea
         }
 
     -- the source failed in the line
-    pub fails : HasBegun source.bytes source'.bytes line → Rose source.faults source'.faults → sink' ≡ sink → IsAtFault m
-    fails begun rose same = record {
+    pub fails : HasBegun source.bytes source'.bytes line → Rose source.faults source'.faults → sink' ≡ sink → new ≡ old → IsAtFault start m new
+    fails begun rose same kept = record {
       rose = rose_later first.source_before.faults source.faults source'.faults under.counts.source rose;
       done = done;
       part = line;
@@ -195,11 +214,12 @@ module _ (start : Option Story) (first : Met) (source source' sink sink' : Strea
       reached = reached line begun.bytes;
       inside = begun.inside;
       written = silent same;
+      stands = still kept;
     }
 
     -- the line is too long
-    pub too_long : IsTooLong source.bytes source'.bytes line → sink' ≡ sink → IsAtBad m number
-    too_long long same = record {
+    pub too_long : IsTooLong source.bytes source'.bytes line → sink' ≡ sink → new ≡ old → IsAtBad start m new number
+    too_long long same kept = record {
       done = done;
       part = line;
       outcome = outcome;
@@ -207,6 +227,7 @@ module _ (start : Option Story) (first : Met) (source source' sink sink' : Strea
       bad = inr (inl (record { inside = long.inside; long = long.long }));
       is_number = is_number;
       written = silent same;
+      stands = still kept;
     }
 
   -- nothing is left
@@ -221,5 +242,5 @@ module _ (start : Option Story) (first : Met) (source source' sink sink' : Strea
         outcome = outcome;
         output = output_same empty done (lines (joined done ++ [])) outcome (sym all) under.reached.output;
         written = silent same;
-        stands = subst (λ (s : Shown). Stands start s outcome) (sym kept) under.stands;
+        stands = still kept;
       }

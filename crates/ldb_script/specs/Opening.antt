@@ -1,21 +1,18 @@
--- What an opening and a put leave, by their answers.
-use Rattle.std.specs.Prelude.{◌≡◌, ℕ, ◌+◌, ◌≤◌, List, [], Option, Some, None, IsSome, Result, Ok, Err}
+-- What an opening, a write and a sync leave, by their answers.
+use Rattle.std.specs.Prelude.{◌≡◌, ℕ, ◌+◌, ◌≤◌, ◌<◌, ◌^◌, Bool, List, [], length, Option, Some, None, IsSome, Result, Ok, Err}
 use Rattle.lsm_io.specs.Causes.{Rose}
 use Rattle.lsm_disk.specs.Names.{stands}
 use Rattle.lsm_disk.specs.State.{Seen, Story, state_of, names_now}
-use Rattle.lsm_rows.specs.Limits.{refusal_of}
-use Rattle.lsm_rows.specs.declared.operations.Op.TheVariants as ops
-use Rattle.ldb_script.specs.Plain.{Outcome, told, empty, put_batch, written, both}
-use Rattle.ldb_script.specs.Stored.{Shown, Holds, Stands, log_path}
+use Rattle.lsm_rows.specs.declared.operations.Op.{Op}
+use Rattle.ldb_script.specs.Plain.{Outcome, told, empty, written, all_durable, both}
+use Rattle.ldb_script.specs.Stored.{Shown, Logs, Stands, log_path}
 use Rattle.lsm_disk.specs.declared.calls.DiskCall.{DiskCall}
 use Rattle.lsm_disk.specs.declared.calls.DiskError.{DiskError}
 use Rattle.lsm_disk.specs.declared.calls.DiskError.TheVariants.{Fault, NotThere, Exists, NoLinks, NotEmpty, Short, NoMemory}
-use Rattle.lsm_rows.specs.declared.refusals.BatchRefusal.{BatchRefusal}
-use Rattle.lsm_rows.specs.declared.refusals.BatchRefusal.TheVariants as refusals
 use Rattle.ldb_script.specs.declared.store.OpenError.{OpenError}
 use Rattle.ldb_script.specs.declared.store.OpenError.TheVariants as open_errors
-use Rattle.ldb_script.specs.declared.store.PutError.{PutError}
-use Rattle.ldb_script.specs.declared.store.PutError.TheVariants as put_errors
+use Rattle.ldb_script.specs.declared.store.StoreError.{StoreError}
+use Rattle.ldb_script.specs.declared.store.StoreError.TheVariants as store_errors
 
 -- neither count of a disk falls
 pub record SeenStay (before after : Seen) : Type 0 where
@@ -43,34 +40,49 @@ IsUnopened folder before after open_errors.Found = IsFull folder before × (afte
 IsUnopened folder before after (open_errors.Changed call path) = Rose before.refusals after.refusals × (before.told ≡ None)
 IsUnopened folder before after open_errors.NoMemory = IsFree folder before
 
--- where a put is refused by a limit or by the disk
-abbrev pub IsUnput : Option Story → Shown → Shown → List ℕ → List ℕ → PutError → Type 0
-IsUnput start old new key value (put_errors.BatchTooLarge what kept limit) = (refusal_of [] (ops.Put key value) ≡ Some (record { what = what; kept = kept; limit = limit })) × (new ≡ old)
-IsUnput start old new key value put_errors.DiskFault = Rose old.disk.faults new.disk.faults
-IsUnput start old new key value (put_errors.Changed call path) = Rose old.disk.refusals new.disk.refusals × (start ≡ None)
-IsUnput start old new key value put_errors.NoMemory = Unit {0}
+-- where the disk refuses a call of an opened store
+abbrev pub IsBroken : Option Story → Shown → Shown → StoreError → Type 0
+IsBroken start old new store_errors.DiskFault = Rose old.disk.faults new.disk.faults
+IsBroken start old new (store_errors.Changed call path) = Rose old.disk.refusals new.disk.refusals × (start ≡ None)
+IsBroken start old new store_errors.NoMemory = Unit {0}
 
--- What a put leaves of a store that stands where a run has come: the batch of this one pair is accepted, or it is refused.
-abbrev pub Puts : Option Story → Shown → Shown → Outcome → List ℕ → List ℕ → Result ℕ PutError → Type 0
-Puts start old new outcome key value (Ok last) = (refusal_of [] (ops.Put key value) ≡ None) × (last ≡ outcome.after.sequence + 1) × Stands start new (both outcome (written outcome.after (put_batch key value) None))
-Puts start old new outcome key value (Err error) = IsUnput start old new key value error
+-- What a write leaves of a store that stands where a run has come: the batch is accepted, or the disk refused it.
+abbrev pub Writes : Option Story → Shown → Shown → Outcome → List Op → Bool → Result ℕ StoreError → Type 0
+Writes start old new outcome batch durable (Ok last) = (last ≡ outcome.after.sequence + length batch) × Stands start new (both outcome (written outcome.after durable batch None))
+Writes start old new outcome batch durable (Err error) = IsBroken start old new error
+
+-- the same run, with each batch durable
+abbrev pub made_durable : Outcome → Outcome
+made_durable outcome = record { text = outcome.text; accepted = outcome.accepted; after = all_durable outcome.after }
+
+-- What a sync leaves of it.
+abbrev pub Syncs : Option Story → Shown → Shown → Outcome → Result Unit StoreError → Type 0
+Syncs start old new outcome (Ok done) = Stands start new (made_durable outcome)
+Syncs start old new outcome (Err error) = IsBroken start old new error
 
 -- ---- the steps of these
 
--- what a put answers where the disk refuses this call
-abbrev pub put_error : DiskCall → List ℕ → DiskError → PutError
-put_error call path Fault = put_errors.DiskFault
-put_error call path NotThere = put_errors.Changed call path
-put_error call path Exists = put_errors.Changed call path
-put_error call path NoLinks = put_errors.Changed call path
-put_error call path NotEmpty = put_errors.Changed call path
-put_error call path (Short found) = put_errors.Changed call path
-put_error call path NoMemory = put_errors.NoMemory
+-- What one line leaves of a store at most: so many operations and bytes more, and the same log.
+pub record ByOneLine (old new : Shown) : Type 0 where
+  pub counts : SeenStay old.disk new.disk
+  pub log : new.log ≡ old.log
+  pub sequence : new.sequence ≤ old.sequence + 1024
+  pub len : new.len ≤ old.len + 67108864
 
--- what a put answers where its batch is refused
-abbrev pub limit_error : BatchRefusal → PutError
-limit_error (refusals.BatchTooLarge what kept limit) = put_errors.BatchTooLarge what kept limit
-limit_error refusals.NoMemory = put_errors.NoMemory
+-- it has room for one line more
+pub record HasRoom (shown : Shown) : Type 0 where
+  pub sequence : shown.sequence + 1024 < 2 ^ 56
+  pub len : shown.len < 2 ^ 63
+
+-- what an opened store answers where the disk refuses this call
+abbrev pub store_error : DiskCall → List ℕ → DiskError → StoreError
+store_error call path Fault = store_errors.DiskFault
+store_error call path NotThere = store_errors.Changed call path
+store_error call path Exists = store_errors.Changed call path
+store_error call path NoLinks = store_errors.Changed call path
+store_error call path NotEmpty = store_errors.Changed call path
+store_error call path (Short found) = store_errors.Changed call path
+store_error call path NoMemory = store_errors.NoMemory
 
 -- what an opening answers there
 abbrev pub open_error : DiskCall → List ℕ → DiskError → OpenError
@@ -83,21 +95,6 @@ open_error call path (Short found) = open_errors.Changed call path
 open_error call path NoMemory = open_errors.NoMemory
 
 -- the folder and the empty log were made, or why not
-abbrev pub MakesOr : List ℕ → Seen → Seen → Result (List ℕ) OpenError → Type 0
-MakesOr folder before after (Ok log) = (story : Story) → before.told ≡ Some story → Holds after.told (log_path folder) []
+abbrev pub MakesOr : {T : Type 0} → List ℕ → Seen → Seen → Result T OpenError → Type 0
+MakesOr folder before after (Ok log) = (story : Story) → before.told ≡ Some story → Logs after.told (log_path folder) [] 0
 MakesOr folder before after (Err why) = IsUnopened folder before after why
-
--- which count rose with a refusal that the disk gave; a limit's is none of these
-abbrev pub PutCause : Seen → Seen → PutError → Type 0
-PutCause before after (put_errors.BatchTooLarge what kept limit) = ⊥
-PutCause before after put_errors.DiskFault = Rose before.faults after.faults
-PutCause before after (put_errors.Changed call path) = Rose before.refusals after.refusals
-PutCause before after put_errors.NoMemory = Unit {0}
-
--- A record at the end of a file that the disk told: the file is longer by it, or the disk failed or memory was wanting.
-abbrev pub LogsOr : Option Story → List ℕ → List ℕ → Result Unit PutError → Type 0
-LogsOr told path bytes (Ok done) = Holds told path bytes
-LogsOr told path bytes (Err (put_errors.BatchTooLarge what kept limit)) = ⊥
-LogsOr told path bytes (Err put_errors.DiskFault) = Unit {0}
-LogsOr told path bytes (Err (put_errors.Changed call path')) = ⊥
-LogsOr told path bytes (Err put_errors.NoMemory) = Unit {0}

@@ -1,4 +1,4 @@
--- A plain state, and what each line prints and leaves: one map and one number, and no files.
+-- A plain state, and what each line prints and leaves: one map and three numbers, and no files.
 use Rattle.std.specs.Prelude.{◌≡◌, ℕ, ◌+◌, Bool, ◌||◌, List, [], ◌∷◌, ◌++◌, length, Option, Some, None, if◌then◌else◌, nat_lt, nat_le}
 use Rattle.std.specs.List.{list_any}
 use Rattle.std.specs.Str.{bytes_eq}
@@ -6,23 +6,25 @@ use Rattle.std.specs.FinMap as map
 use Rattle.lsm_rows.specs.Replay.{Contents, replayed}
 use Rattle.lsm_rows.specs.Limits.{Refused, refusal_of}
 use Rattle.lsm_rows.specs.declared.operations.Op.{Op}
-use Rattle.lsm_rows.specs.declared.operations.Op.TheVariants as ops
 use Rattle.ldb_script.specs.Script.{line_of}
-use Rattle.ldb_script.specs.Printed.{sequence_line, value_line, too_large_line}
+use Rattle.ldb_script.specs.Printed.{sequence_line, value_line, ok_line, too_large_line}
 use Rattle.ldb_script.specs.declared.line.Line.{Line}
 use Rattle.ldb_script.specs.declared.line.Line.TheVariants.{Blank, Ask}
 use Rattle.ldb_script.specs.declared.line.Command.{Command}
-use Rattle.ldb_script.specs.declared.line.Command.TheVariants.{Put, Get}
+use Rattle.ldb_script.specs.declared.line.Command.TheVariants.{Write, Sync, Get}
 
--- the pairs, the last sequence, and the actors that lines have named, the first first
+-- the pairs and the last sequence; how many batches were accepted, and how many of them, the first ones, outlive each crash;
+-- and the actors that lines have named, the first first
 pub record Plain : Type 0 where
   pub contents : Contents
   pub sequence : ℕ
+  pub batches : ℕ
+  pub durable : ℕ
   pub actors : List (List ℕ)
 
 -- nothing was written, and nobody named
 abbrev pub empty : Plain
-empty = record { contents = map.empty; sequence = 0; actors = [] }
+empty = record { contents = map.empty; sequence = 0; batches = 0; durable = 0; actors = [] }
 
 -- ---- the grammar as far as it looks back
 
@@ -55,7 +57,7 @@ pub record Outcome : Type 0 where
   pub accepted : List (List Op)
   pub after : Plain
 
--- it prints, and changes nothing
+-- it prints, and accepts nothing
 abbrev pub told : Plain → List ℕ → Outcome
 told plain text = record { text = text; accepted = []; after = plain }
 
@@ -68,27 +70,34 @@ abbrev pub first_refusal : List Op → List Op → Option Refused
 first_refusal built [] = None
 first_refusal built (op ∷ more) = or_later (refusal_of built op) (first_refusal (built ++ op ∷ []) more)
 
--- a batch is accepted whole, or refused by a limit
-abbrev pub written : Plain → List Op → Option Refused → Outcome
-written plain batch None = record {
-  text = sequence_line (plain.sequence + length batch);
-  accepted = batch ∷ [];
-  after = record { contents = replayed plain.contents (batch ∷ []); sequence = plain.sequence + length batch; actors = plain.actors };
+-- a batch more: its operations are applied in their order, and where it is durable, so is each batch before it
+abbrev pub with_batch : Plain → Bool → List Op → Plain
+with_batch plain durable batch = record {
+  contents = replayed plain.contents (batch ∷ []);
+  sequence = plain.sequence + length batch;
+  batches = plain.batches + 1;
+  durable = if durable then plain.batches + 1 else plain.durable;
+  actors = plain.actors;
 }
-written plain batch (Some refused) = told plain (too_large_line refused)
 
--- the batch that a put is
-abbrev pub put_batch : List ℕ → List ℕ → List Op
-put_batch key value = ops.Put key value ∷ []
+-- each batch so far is durable
+abbrev pub all_durable : Plain → Plain
+all_durable plain = record { contents = plain.contents; sequence = plain.sequence; batches = plain.batches; durable = plain.batches; actors = plain.actors }
+
+-- a batch is accepted whole, or refused by a limit
+abbrev pub written : Plain → Bool → List Op → Option Refused → Outcome
+written plain durable batch None = record { text = sequence_line (plain.sequence + length batch); accepted = batch ∷ []; after = with_batch plain durable batch }
+written plain durable batch (Some refused) = told plain (too_large_line refused)
 
 -- what a command does
 abbrev pub Answers : Plain → Command → Outcome → Type 0
-Answers plain (Put key value) outcome = outcome ≡ written plain (put_batch key value) (first_refusal [] (put_batch key value))
+Answers plain (Write durable batch) outcome = outcome ≡ written plain durable batch (first_refusal [] batch)
+Answers plain Sync outcome = outcome ≡ told (all_durable plain) ok_line
 Answers plain (Get key) outcome = outcome ≡ told plain (value_line (map.get plain.contents key))
 
 -- the state in which an actor's command is done
 abbrev pub named : Plain → List ℕ → Plain
-named plain actor = record { contents = plain.contents; sequence = plain.sequence; actors = with_actor plain.actors actor }
+named plain actor = record { contents = plain.contents; sequence = plain.sequence; batches = plain.batches; durable = plain.durable; actors = with_actor plain.actors actor }
 
 -- what a line prints and leaves
 abbrev pub Prints : Plain → Line → Outcome → Type 0

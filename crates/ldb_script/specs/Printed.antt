@@ -19,6 +19,10 @@ unfoldable pub value_line : Option (List ℕ) → List ℕ
 value_line None = with_newline (codes "none")
 value_line (Some value) = with_newline (codes "value " ++ shown value)
 
+-- a call that has nothing else to say is answered so
+abbrev pub ok_line : List ℕ
+ok_line = with_newline (codes "ok")
+
 -- an enum prints as its variant's name
 abbrev pub what_name : What → List ℕ
 what_name Key = codes "Key"

@@ -7,9 +7,9 @@ use Rattle.lsm_disk.specs.Names.{stands}
 use Rattle.lsm_disk.specs.State.{Seen, Story, state_of, names_now}
 use Rattle.ldb_script.specs.Script.{lines}
 use Rattle.ldb_script.specs.Input.{IsInside}
-use Rattle.ldb_script.specs.Plain.{Outcome, Output, empty, line_at}
+use Rattle.ldb_script.specs.Plain.{Outcome, Output, Does, empty, line_at}
 use Rattle.ldb_script.specs.Printed.{with_newline, bad_line}
-use Rattle.ldb_script.specs.Stored.{Holds, log_path, log_of}
+use Rattle.ldb_script.specs.Stored.{Keeps, Logs, log_path, log_of}
 
 -- a source or a sink: the bytes that are left or were taken, where it tells them, and its count of faults
 pub record Stream : Type 0 where
@@ -68,8 +68,8 @@ pub record Says (m : Met) (text last : List ℕ) : Type 0 where
 
 -- ---- status 0
 
--- The source was read to its end, and each of its lines is done: the sink took their output, and the log holds each batch that
--- they had accepted, once and in their order, where the disk tells.
+-- The source was read to its end, and each of its lines is done: the sink took their output, and where the disk tells, the log
+-- holds each batch that they had accepted, once and in their order, now and after each crash.
 pub record Finished (folder : List ℕ) (m : Met) : Type 0 where
   pub bytes : List ℕ
   pub read : Consumes m.source_before.bytes m.source_after.bytes bytes
@@ -78,14 +78,18 @@ pub record Finished (folder : List ℕ) (m : Met) : Type 0 where
   pub outcome : Outcome
   pub output : Output empty (lines bytes) outcome
   pub written : Appends m.sink_before.bytes m.sink_after.bytes outcome.text
-  pub log : (story : Story) → m.disk_before.told ≡ Some story → Holds m.disk_after.told (log_path folder) (log_of outcome.accepted)
+  pub log : (story : Story) → m.disk_before.told ≡ Some story → Keeps m.disk_after.told (log_path folder) (log_of outcome.accepted)
 
 -- ---- status 2
+
+-- this part of the input is this line, with its newline or ended by the input's end
+abbrev pub EndsLine : List ℕ → List ℕ → Option (List ℕ) → Type 0
+EndsLine part line left = (part ≡ line ++ 10 ∷ []) ⊎ ((part ≡ line) × IsAtEnd left)
 
 -- a whole line that is not in the grammar behind lines that named these actors
 pub record IsUnknown (actors : List (List ℕ)) (part : List ℕ) (left : Option (List ℕ)) : Type 0 where
   pub line : List ℕ
-  pub ends : (part ≡ line ++ 10 ∷ []) ⊎ ((part ≡ line) × IsAtEnd left)
+  pub ends : EndsLine part line left
   pub inside : IsInside line
   pub unknown : line_at actors line ≡ None
 
@@ -102,19 +106,21 @@ pub record IsExtra (done : List (List ℕ)) (part : List ℕ) : Type 0 where
 abbrev pub IsBad : List (List ℕ) → List (List ℕ) → List ℕ → Option (List ℕ) → Type 0
 IsBad actors done part left = IsUnknown actors part left ⊎ (IsLong part ⊎ IsExtra done part)
 
--- The run stopped at the first line that is not in the grammar: those before it are done, and the last line names it.
-pub record StoppedAt (m : Met) : Type 0 where
+-- The run stopped at the first line that is not in the grammar: those before it are done, the last line names it, and where
+-- the disk tells, the log holds each batch that they had accepted, once and in their order.
+pub record StoppedAt (folder : List ℕ) (m : Met) : Type 0 where
   pub done : List (List ℕ)
   pub part : List ℕ
   pub outcome : Outcome
   pub reached : Reached m done part outcome
   pub bad : IsBad outcome.after.actors done part m.source_after.bytes
   pub says : Says m outcome.text (bad_line (length done + 1))
+  pub log : (story : Story) → m.disk_before.told ≡ Some story → Logs m.disk_after.told (log_path folder) outcome.accepted outcome.after.durable
 
 -- ---- statuses 3 to 6
 
--- The source failed: the whole lines of what was read are done.
-pub record ReadFailed (m : Met) : Type 0 where
+-- The source failed: the whole lines of what was read are done, and the log holds the batches that they had accepted.
+pub record ReadFailed (folder : List ℕ) (m : Met) : Type 0 where
   pub rose : Rose m.source_before.faults m.source_after.faults
   pub done : List (List ℕ)
   pub part : List ℕ
@@ -122,6 +128,25 @@ pub record ReadFailed (m : Met) : Type 0 where
   pub reached : Reached m done part outcome
   pub inside : IsInside part
   pub says : Says m outcome.text (with_newline (codes "read fault"))
+  pub log : (story : Story) → m.disk_before.told ≡ Some story → Logs m.disk_after.told (log_path folder) outcome.accepted outcome.after.durable
+
+-- The sink failed at the text of a line: the lines before it and the line itself are done, the sink took the text of those and
+-- a first part of the line's, and the log holds the batches that they had accepted.
+pub record WriteFailed (folder : List ℕ) (m : Met) : Type 0 where
+  pub rose : Rose m.sink_before.faults m.sink_after.faults
+  pub done : List (List ℕ)
+  pub part : List ℕ
+  pub outcome : Outcome
+  pub reached : Reached m done part outcome
+  pub line : List ℕ
+  pub ends : EndsLine part line m.source_after.bytes
+  pub next : Outcome
+  pub does : Does outcome.after line next
+  pub front : List ℕ
+  pub rest : List ℕ
+  pub parts : next.text ≡ front ++ rest
+  pub took : Appends m.sink_before.bytes m.sink_after.bytes (outcome.text ++ front)
+  pub log : (story : Story) → m.disk_before.told ≡ Some story → Logs m.disk_after.told (log_path folder) (outcome.accepted ++ next.accepted) next.after.durable
 
 -- the name of the folder is taken: nothing was read or changed, and the last line says so
 pub record IsFound (folder : List ℕ) (m : Met) : Type 0 where
@@ -156,9 +181,9 @@ is_faultless status = status == 0 || (status == 2 || (status == 6 || status == 8
 -- What each status says.
 pub record IsRun (folder : List ℕ) (m : Met) (status : ℕ) : Type 0 where
   pub finished : status ≡ 0 → Finished folder m
-  pub bad_line : status ≡ 2 → StoppedAt m
-  pub read : status ≡ 3 → ReadFailed m
-  pub write : status ≡ 4 → Rose m.sink_before.faults m.sink_after.faults
+  pub bad_line : status ≡ 2 → StoppedAt folder m
+  pub read : status ≡ 3 → ReadFailed folder m
+  pub write : status ≡ 4 → WriteFailed folder m
   pub disk : status ≡ 5 → Rose m.disk_before.faults m.disk_after.faults
   pub refused : status ≡ 6 → RefusedBy folder m
   -- where the name is taken, it is refused, but for a fault or want of memory

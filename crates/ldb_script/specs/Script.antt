@@ -1,12 +1,14 @@
 -- The script: its lines, and what a line asks for.
-use Rattle.std.specs.Prelude.{ℕ, Bool, true, List, [], ◌∷◌, Option, Some, None, if◌then◌else◌, ◌==◌, codes}
+use Rattle.std.specs.Prelude.{ℕ, Bool, true, false, List, [], ◌∷◌, Option, Some, None, if◌then◌else◌, ◌==◌, codes}
 use Rattle.std.specs.List.{slice_split, list_all}
 use Rattle.std.specs.Str.{bytes_eq}
 use Rattle.ldb_script.specs.Words.{is_word, is_actor, bytes_of_word}
 use Rattle.ldb_script.specs.declared.line.Line.{Line}
 use Rattle.ldb_script.specs.declared.line.Line.TheVariants.{Blank, Ask}
 use Rattle.ldb_script.specs.declared.line.Command.{Command}
-use Rattle.ldb_script.specs.declared.line.Command.TheVariants.{Put, Get}
+use Rattle.ldb_script.specs.declared.line.Command.TheVariants.{Write, Sync, Get}
+use Rattle.lsm_rows.specs.declared.operations.Op.{Op}
+use Rattle.lsm_rows.specs.declared.operations.Op.TheVariants as ops
 
 -- a last line is there only where the input goes on behind the last newline
 abbrev pub without_empty_end : List (List ℕ) → List (List ℕ)
@@ -24,20 +26,87 @@ abbrev pub is_blank : List ℕ → Bool
 is_blank [] = true
 is_blank (b ∷ bs) = b == 35
 
-abbrev pub a_get : Option (List ℕ) → Option Command
-a_get None = None
-a_get (Some key) = Some (Get key)
-
-abbrev pub a_put : Option (List ℕ) → Option (List ℕ) → Option Command
+-- a put of what two words stand for, and a delete of what one does
+abbrev pub a_put : Option (List ℕ) → Option (List ℕ) → Option Op
 a_put None value = None
 a_put (Some key) None = None
-a_put (Some key) (Some value) = Some (Put key value)
+a_put (Some key) (Some value) = Some (ops.Put key value)
 
--- the words behind the actor: `get K` or `put K V`
+abbrev pub a_delete : Option (List ℕ) → Option Op
+a_delete None = None
+a_delete (Some key) = Some (ops.Delete key)
+
+-- one operation, and those behind it
+abbrev pub and_more : Option Op → Option (List Op) → Option (List Op)
+and_more None more = None
+and_more (Some op) None = None
+and_more (Some op) (Some more) = Some (op ∷ more)
+
+-- the operations that words name, one behind another: each is `put K V` or `del K`
+unfoldable pub operations : List (List ℕ) → Option (List Op)
+operations [] = Some []
+operations (verb ∷ []) = None
+operations (verb ∷ key ∷ []) = if bytes_eq verb (codes "del") then and_more (a_delete (bytes_of_word key)) (Some []) else None
+operations (verb ∷ key ∷ value ∷ more) =
+    if bytes_eq verb (codes "del") then and_more (a_delete (bytes_of_word key)) (operations (value ∷ more))
+    else (if bytes_eq verb (codes "put") then and_more (a_put (bytes_of_word key) (bytes_of_word value)) (operations more) else None)
+
+-- the operation that words begin with
+abbrev pub first_operation : List (List ℕ) → Option Op
+first_operation [] = None
+first_operation (verb ∷ []) = None
+first_operation (verb ∷ key ∷ []) = if bytes_eq verb (codes "del") then a_delete (bytes_of_word key) else None
+first_operation (verb ∷ key ∷ value ∷ more) =
+    if bytes_eq verb (codes "del") then a_delete (bytes_of_word key)
+    else (if bytes_eq verb (codes "put") then a_put (bytes_of_word key) (bytes_of_word value) else None)
+
+-- how many words name an operation
+abbrev pub words_in : Op → ℕ
+words_in (ops.Put key value) = 3
+words_in (ops.Delete key) = 2
+
+-- those that are at least one, and those that are exactly one
+abbrev pub some_of : Option (List Op) → Option (List Op)
+some_of None = None
+some_of (Some []) = None
+some_of (Some (op ∷ more)) = Some (op ∷ more)
+
+abbrev pub one_of : Option (List Op) → Option (List Op)
+one_of None = None
+one_of (Some []) = None
+one_of (Some (op ∷ [])) = Some (op ∷ [])
+one_of (Some (op ∷ next ∷ more)) = None
+
+-- the batch that words name: one operation, or `batch` and its operations
+abbrev pub write_of : List (List ℕ) → Option (List Op)
+write_of [] = None
+write_of (verb ∷ words) = if bytes_eq verb (codes "batch") then some_of (operations words) else one_of (operations (verb ∷ words))
+
+abbrev pub a_write : Bool → Option (List Op) → Option Command
+a_write durable None = None
+a_write durable (Some ops) = Some (Write durable ops)
+
+abbrev pub a_get_of : Option (List ℕ) → Option Command
+a_get_of None = None
+a_get_of (Some key) = Some (Get key)
+
+abbrev pub a_get : List (List ℕ) → Option Command
+a_get [] = None
+a_get (key ∷ []) = a_get_of (bytes_of_word key)
+a_get (key ∷ more ∷ words) = None
+
+abbrev pub a_sync : List (List ℕ) → Option Command
+a_sync [] = Some Sync
+a_sync (word ∷ words) = None
+
+-- the words behind the actor: `get K`, `sync`, or a write, durable or not
 abbrev pub command_of : List (List ℕ) → Option Command
-command_of (verb ∷ key ∷ []) = if bytes_eq verb (codes "get") then a_get (bytes_of_word key) else None
-command_of (verb ∷ key ∷ value ∷ []) = if bytes_eq verb (codes "put") then a_put (bytes_of_word key) (bytes_of_word value) else None
-command_of words = None
+command_of [] = None
+command_of (verb ∷ words) =
+    if bytes_eq verb (codes "get") then a_get words
+    else (if bytes_eq verb (codes "sync") then a_sync words
+    else (if bytes_eq verb (codes "durable") then a_write true (write_of words)
+    else a_write false (write_of (verb ∷ words))))
 
 abbrev pub asked_by : List ℕ → Option Command → Option Line
 asked_by actor None = None

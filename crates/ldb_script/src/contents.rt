@@ -2,9 +2,11 @@
 ghost use Rattle.std.specs.Prelude.{◌≡◌, OnOk};
 ghost use Rattle.std.specs.Option.{option_map};
 ghost use Rattle.std.specs.FinMap as finite;
-ghost use Rattle.lsm_rows.specs.Replay.{key_cmp};
+ghost use Rattle.std.specs.List.{fold};
+ghost use Rattle.lsm_rows.specs.Replay.{key_cmp, applied};
 
 use lsm_bytes::NoMemory;
+use lsm_rows::Op;
 use std::alloc::Global;
 use std::collections::BTreeMap;
 use std::marker::Model;
@@ -46,6 +48,36 @@ impl Pairs {
             Some(value) => Some(value.as_slice()),
             None => None,
         }
+    }
+
+    /// Takes a key out, whether it was there or not.
+    pub fn remove(&mut self, key: &[u8])
+        ensures { self.new ≡ finite.remove self.old key.now }
+    {
+        self.values.remove(key);
+    }
+
+    /// Does an operation.
+    pub fn apply(&mut self, op: &Op) -> Result<(), NoMemory>
+        ensures { OnOk result (self.new ≡ applied self.old op.now) }
+    {
+        match op {
+            Op::Put { key, value } => self.put(key.as_slice(), value.as_slice()),
+            Op::Delete { key } => {
+                self.remove(key.as_slice());
+                Ok(())
+            }
+        }
+    }
+
+    /// Does operations in their order. After an error some of them are done.
+    pub fn apply_all(&mut self, ops: &[Op]) -> Result<(), NoMemory>
+        ensures { OnOk result (self.new ≡ fold applied self.old ops.now) }
+    {
+        for op in ops {
+            self.apply(op)?;
+        }
+        Ok(())
     }
 
     /// Sets a key's value.

@@ -6,6 +6,7 @@ mod contents;
 mod ending;
 mod input;
 mod line;
+mod operations;
 mod printing;
 mod script;
 mod store;
@@ -13,4 +14,5 @@ mod words;
 
 pub use ending::say;
 pub use line::{Command, Line};
+pub use operations::Operations;
 pub use script::{Done, run_script};

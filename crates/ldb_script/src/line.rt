@@ -1,18 +1,23 @@
 //! What a line of a script asks for.
-ghost use Rattle.std.specs.Prelude.{◌≡◌, ◌==◌, ◌∷◌, IfOk, map, Option, None, Some};
+ghost use Rattle.std.specs.Prelude.{◌≡◌, ◌==◌, ◌∷◌, ℕ, IfOk, map, length, Option, None, Some};
 ghost use Rattle.std.specs.List.{slice_split};
+ghost use Rattle.std.specs.Option.{option_map};
 ghost use Rattle.ldb_script.specs.Words.{bytes_of_word};
-ghost use Rattle.ldb_script.specs.Script.{is_blank, a_get, a_put, command_of, line_of_words, line_of};
+ghost use Rattle.ldb_script.specs.Script.{is_blank, a_put, a_delete, first_operation, words_in, operations, write_of, a_get, a_sync, a_write, command_of, line_of_words, line_of};
 
+use crate::operations::Operations;
 use crate::words::{all_words, bytes_of_word, is_actor, split_words};
 use lsm_bytes::{Bytes, NoMemory};
+use lsm_rows::Op;
 use std::alloc::Global;
 
 /// What an actor asks for.
 #[derive(Drop)]
 pub enum Command {
-    /// Writes one pair.
-    Put { key: Bytes, value: Bytes },
+    /// Writes a batch of these operations. Where `durable`, it outlives each crash once it is answered.
+    Write { durable: bool, ops: Operations },
+    /// Makes all writes so far outlive each crash.
+    Sync,
     /// Asks for a key's value.
     Get { key: Bytes },
 }
@@ -35,46 +40,142 @@ fn is_blank(line: &[u8]) -> bool
     }
 }
 
-fn parse_get(alloc: Global, key: &[u8]) -> Result<Option<Command>, NoMemory>
-    ensures { IfOk result (λ command. command ≡ a_get (bytes_of_word key.now)) }
+fn parse_put(alloc: Global, key: &[u8], value: &[u8]) -> Result<Option<Op>, NoMemory>
+    ensures { IfOk result (λ op. op ≡ a_put (bytes_of_word key.now) (bytes_of_word value.now)) }
 {
+    let Some(key) = bytes_of_word(alloc, key)? else {
+        return Ok(None);
+    };
+    match bytes_of_word(alloc, value)? {
+        Some(value) => Ok(Some(Op::Put { key, value })),
+        None => Ok(None),
+    }
+}
+
+fn parse_delete(alloc: Global, key: &[u8]) -> Result<Option<Op>, NoMemory>
+    ensures { IfOk result (λ op. op ≡ a_delete (bytes_of_word key.now)) }
+{
+    match bytes_of_word(alloc, key)? {
+        Some(key) => Ok(Some(Op::Delete { key })),
+        None => Ok(None),
+    }
+}
+
+// The operation that the words begin with.
+fn parse_operation(alloc: Global, words: &[&[u8]]) -> Result<Option<Op>, NoMemory>
+    ensures { IfOk result (λ op. op ≡ first_operation (map (λ w. w.now) words.now)) }
+{
+    match words {
+        [verb, key, value, ..] => {
+            if *verb == b"del".as_slice() {
+                parse_delete(alloc, key)
+            } else if *verb == b"put".as_slice() {
+                parse_put(alloc, key, value)
+            } else {
+                Ok(None)
+            }
+        }
+        [verb, key] => {
+            if *verb == b"del".as_slice() {
+                parse_delete(alloc, key)
+            } else {
+                Ok(None)
+            }
+        }
+        _ => Ok(None),
+    }
+}
+
+// How many words name an operation.
+fn words_in(op: &Op) -> usize
+    ensures { result ≡ words_in op.now }
+{
+    match op {
+        Op::Put { .. } => 3,
+        Op::Delete { .. } => 2,
+    }
+}
+
+fn parse_operations(alloc: Global, words: &[&[u8]]) -> Result<Option<Vec<Op>>, NoMemory>
+    ensures { IfOk result (λ ops. option_map (λ v. v.items) ops ≡ operations (map (λ w. w.now) words.now)) }
+{
+    let mut ops = Vec::new(alloc);
+    let mut at = 0;
+    while at < words.len() {
+        let Some(op) = parse_operation(alloc, words.split_at(at).1)? else {
+            return Ok(None);
+        };
+        at += words_in(&op);
+        ops.push(op)?;
+    }
+    Ok(Some(ops))
+}
+
+fn parse_write(alloc: Global, words: &[&[u8]]) -> Result<Option<Operations>, NoMemory>
+    ensures { IfOk result (λ ops. ops ≡ write_of (map (λ w. w.now) words.now)) }
+{
+    let Some((verb, rest)) = words.split_first() else {
+        return Ok(None);
+    };
+    if *verb == b"batch".as_slice() {
+        match parse_operations(alloc, rest)? {
+            Some(ops) => Ok(Operations::some_of(ops)),
+            None => Ok(None),
+        }
+    } else {
+        match parse_operations(alloc, words)? {
+            Some(ops) => Ok(Operations::one_of(ops)),
+            None => Ok(None),
+        }
+    }
+}
+
+// A write's command.
+fn asked(durable: bool, ops: Option<Operations>) -> Option<Command>
+    ensures { result ≡ a_write durable ops }
+{
+    match ops {
+        Some(ops) => Some(Command::Write { durable, ops }),
+        None => None,
+    }
+}
+
+fn parse_get(alloc: Global, words: &[&[u8]]) -> Result<Option<Command>, NoMemory>
+    ensures { IfOk result (λ command. command ≡ a_get (map (λ w. w.now) words.now)) }
+{
+    let [key] = words else {
+        return Ok(None);
+    };
     match bytes_of_word(alloc, key)? {
         Some(key) => Ok(Some(Command::Get { key })),
         None => Ok(None),
     }
 }
 
-fn parse_put(alloc: Global, key: &[u8], value: &[u8]) -> Result<Option<Command>, NoMemory>
-    ensures { IfOk result (λ command. command ≡ a_put (bytes_of_word key.now) (bytes_of_word value.now)) }
+fn parse_sync(words: &[&[u8]]) -> Option<Command>
+    ensures { result ≡ a_sync (map (λ w. w.now) words.now) }
 {
-    let Some(key) = bytes_of_word(alloc, key)? else {
-        return Ok(None);
-    };
-    match bytes_of_word(alloc, value)? {
-        Some(value) => Ok(Some(Command::Put { key, value })),
-        None => Ok(None),
+    if words.is_empty() {
+        Some(Command::Sync)
+    } else {
+        None
     }
 }
 
 fn parse_command(alloc: Global, words: &[&[u8]]) -> Result<Option<Command>, NoMemory>
     ensures { IfOk result (λ command. command ≡ command_of (map (λ w. w.now) words.now)) }
 {
-    match words {
-        [verb, key] => {
-            if *verb == b"get".as_slice() {
-                parse_get(alloc, key)
-            } else {
-                Ok(None)
-            }
-        }
-        [verb, key, value] => {
-            if *verb == b"put".as_slice() {
-                parse_put(alloc, key, value)
-            } else {
-                Ok(None)
-            }
-        }
-        _ => Ok(None),
+    let Some((verb, rest)) = words.split_first() else {
+        return Ok(None);
+    };
+    if *verb == b"get".as_slice() {
+        parse_get(alloc, rest)
+    } else if *verb == b"sync".as_slice() {
+        Ok(parse_sync(rest))
+    } else if *verb == b"durable".as_slice() {
+        Ok(asked(true, parse_write(alloc, rest)?))
+    } else {
+        Ok(asked(false, parse_write(alloc, words)?))
     }
 }
 

@@ -1,7 +1,7 @@
 //! The lines that a script prints.
 ghost use Rattle.std.specs.Prelude.{◌≡◌, IfOk, OnOk};
 ghost use Rattle.std.specs.Option.{option_map};
-ghost use Rattle.ldb_script.specs.Printed.{sequence_line, value_line, what_name, too_large_line, bad_line};
+ghost use Rattle.ldb_script.specs.Printed.{sequence_line, value_line, ok_line, what_name, too_large_line, bad_line};
 
 use crate::words::push_shown;
 use lsm_bytes::{Bytes, NoMemory};
@@ -15,6 +15,13 @@ pub fn sequence_line(alloc: Global, last: u64) -> Result<Bytes, NoMemory>
 {
     let text = format!(in alloc; "seq {last}\n")?;
     Bytes::from_slice(alloc, text.as_bytes())
+}
+
+/// The answer to a call that has nothing else to say.
+pub fn ok_line(alloc: Global) -> Result<Bytes, NoMemory>
+    ensures { IfOk result (λ text. text ≡ ok_line) }
+{
+    Bytes::from_slice(alloc, b"ok\n")
 }
 
 /// The answer to a get.

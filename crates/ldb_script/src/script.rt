@@ -1,16 +1,17 @@
 //! The run of a script: line by line from a source, over a store that it opens, to a sink.
-ghost use Rattle.std.specs.Prelude.{◌≡◌, ◌≤◌, ◌<◌, ◌+◌, ◌^◌, [], ◌∷◌, ◌++◌, List, ℕ, Option, length, Ok};
+ghost use Rattle.std.specs.Prelude.{◌≡◌, ◌≤◌, ◌<◌, ◌+◌, ◌^◌, [], ◌∷◌, ◌++◌, ◌*◌, ◌-◌, List, ℕ, Option, None, length, Ok, OnOk};
 
 use crate::actors::Actors;
 use crate::ending::{Ended, end};
 use crate::input::{InputError, Piece, read_byte, read_line};
 use crate::line::{Command, Line};
-use crate::printing::{sequence_line, too_large_line, value_line};
-use crate::store::{OpenError, OpenRefusal, PutError, Store};
+use crate::printing::{ok_line, sequence_line, too_large_line, value_line};
+use crate::store::{OpenError, OpenRefusal, Store, StoreError};
 use lsm_bytes::{Bytes, NoMemory};
 use lsm_disk::Disk;
 use lsm_io::{Clock, Sessions, Sink, Source};
 use lsm_names::Folder;
+use lsm_rows::{Batch, BatchRefusal, Op};
 use std::alloc::Global;
 use std::thread::Threads;
 
@@ -24,11 +25,12 @@ pub struct Done<D, B> {
 
 ghost use Rattle.lsm_io.specs.Causes.{Rose};
 ghost use Rattle.lsm_disk.specs.State.{Story};
-ghost use Rattle.ldb_script.specs.Plain.{Outcome, told, empty};
+ghost use Rattle.lsm_rows.specs.Limits.{refusal_of, refused_in};
+ghost use Rattle.ldb_script.specs.Plain.{Outcome, told, empty, first_refusal};
 ghost use Rattle.ldb_script.specs.Stored.{Stands};
-ghost use Rattle.ldb_script.specs.Opening.{SeenStay};
+ghost use Rattle.ldb_script.specs.Opening.{HasRoom, ByOneLine};
 ghost use Rattle.ldb_script.specs.Run.{Stream, Met, now, met, CountsStay, IsRun};
-ghost use Rattle.ldb_script.specs.Doing.{BehindIs, MadeOr, UnputOr, AnsweredOr, ServedOr, DoneOr, Underway, TurnedOr, Ran, unopened_end};
+ghost use Rattle.ldb_script.specs.Doing.{BehindIs, MadeOr, BuildsOr, broken_end, AnsweredOr, ServedOr, DoneOr, Underway, TurnedOr, Ran, Closed, unopened_end};
 
 fn made(text: Result<Bytes, NoMemory>) -> Result<Bytes, Ended>
     ensures { MadeOr text result }
@@ -39,49 +41,99 @@ fn made(text: Result<Bytes, NoMemory>) -> Result<Bytes, Ended>
     }
 }
 
-// The answer to a pair that was not written, or the end of the run.
-fn answer_unput(alloc: Global, error: PutError) -> Result<Bytes, Ended>
-    ensures { UnputOr error result }
+// How a run ends whose store was refused.
+fn broken(error: StoreError) -> Ended
+    ensures { result ≡ broken_end error }
 {
     match error {
-        PutError::BatchTooLarge { what, kept, limit } => {
-            made(too_large_line(alloc, what, kept, limit))
-        }
-        PutError::DiskFault => Err(Ended::DiskFault),
-        PutError::Changed { call, path } => Err(Ended::Changed { call, path }),
-        PutError::NoMemory => Err(Ended::NoMemory),
+        StoreError::DiskFault => Ended::DiskFault,
+        StoreError::Changed { call, path } => Ended::Changed { call, path },
+        StoreError::NoMemory => Ended::NoMemory,
     }
 }
 
-// Writes a pair, and makes the answer.
-fn answer_put<D: Disk>(
+// Adds an operation to a batch. The limits are tested before memory is taken.
+fn add_op(batch: &mut Batch, op: &Op) -> Result<(), BatchRefusal>
+    ensures ok { OnOk result (batch.new ≡ batch.old ++ op.now ∷ []) }
+    ensures refused { refused_in result ≡ refusal_of batch.old op.now }
+{
+    match op {
+        Op::Put { key, value } => batch.put(key.as_slice(), value.as_slice()),
+        Op::Delete { key } => batch.delete(key.as_slice()),
+    }
+}
+
+// The batch of these operations, or what the limits refuse of the first one that they refuse.
+fn build_batch(alloc: Global, ops: &[Op]) -> Result<Batch, BatchRefusal>
+    ensures { BuildsOr ops.now result }
+{
+    let mut batch = Batch::new(alloc);
+    for op in ops {
+        add_op(&mut batch, op)?;
+    }
+    Ok(batch)
+}
+
+// Writes a batch, and makes the answer.
+fn answer_batch<D: Disk>(
     alloc: Global,
     store: &mut Store<D>,
-    key: &[u8],
-    value: &[u8],
+    batch: &Batch,
+    durable: bool,
 ) -> Result<Bytes, Ended>
-    requires { store.old.sequence + 1 < 2 ^ 56 }
-    ensures done { (start : Option Story) (outcome : Outcome) → Stands start store.old outcome → AnsweredOr start store.old store.new outcome (Command.Put key.now value.now) result }
-    ensures counts { SeenStay store.old.disk store.new.disk }
-    ensures sequence { store.new.sequence ≤ store.old.sequence + 1 }
-    ensures log { store.new.log ≡ store.old.log }
+    requires some { 1 ≤ length batch.now }
+    requires room { HasRoom store.old }
+    ensures done { (start : Option Story) (outcome : Outcome) → Stands start store.old outcome → first_refusal [] batch.now ≡ None
+        → AnsweredOr start store.old store.new outcome (Command.Write durable batch.now) result }
+    ensures line { ByOneLine store.old store.new }
 {
-    match store.put(key, value) {
+    match store.write(batch, durable) {
         Ok(last) => made(sequence_line(alloc, last)),
-        Err(error) => answer_unput(alloc, error),
+        Err(error) => Err(broken(error)),
+    }
+}
+
+// Writes operations as one batch where the limits take them, and makes the answer.
+fn answer_write<D: Disk>(
+    alloc: Global,
+    store: &mut Store<D>,
+    ops: &[Op],
+    durable: bool,
+) -> Result<Bytes, Ended>
+    requires some { 1 ≤ length ops.now }
+    requires room { HasRoom store.old }
+    ensures done { (start : Option Story) (outcome : Outcome) → Stands start store.old outcome → AnsweredOr start store.old store.new outcome (Command.Write durable ops.now) result }
+    ensures line { ByOneLine store.old store.new }
+{
+    match build_batch(alloc, ops) {
+        Ok(batch) => answer_batch(alloc, store, &batch, durable),
+        Err(BatchRefusal::BatchTooLarge { what, kept, limit }) => {
+            made(too_large_line(alloc, what, kept, limit))
+        }
+        Err(BatchRefusal::NoMemory) => Err(Ended::NoMemory),
+    }
+}
+
+// Makes all writes durable, and makes the answer.
+fn answer_sync<D: Disk>(alloc: Global, store: &mut Store<D>) -> Result<Bytes, Ended>
+    ensures done { (start : Option Story) (outcome : Outcome) → Stands start store.old outcome → AnsweredOr start store.old store.new outcome Command.Sync result }
+    ensures line { ByOneLine store.old store.new }
+{
+    match store.sync() {
+        Ok(()) => made(ok_line(alloc)),
+        Err(error) => Err(broken(error)),
     }
 }
 
 // Does a command, and makes its answer.
 fn answer<D: Disk>(alloc: Global, store: &mut Store<D>, command: &Command) -> Result<Bytes, Ended>
-    requires { store.old.sequence + 1 < 2 ^ 56 }
+    requires { HasRoom store.old }
     ensures done { (start : Option Story) (outcome : Outcome) → Stands start store.old outcome → AnsweredOr start store.old store.new outcome command.now result }
-    ensures counts { SeenStay store.old.disk store.new.disk }
-    ensures sequence { store.new.sequence ≤ store.old.sequence + 1 }
-    ensures log { store.new.log ≡ store.old.log }
+    ensures line { ByOneLine store.old store.new }
 {
     match command {
-        Command::Put { key, value } => answer_put(alloc, store, key.as_slice(), value.as_slice()),
+        Command::Write { durable, ops } => answer_write(alloc, store, ops.as_slice(), *durable),
+        Command::Sync => answer_sync(alloc, store),
         Command::Get { key } => made(value_line(alloc, store.get(key.as_slice()))),
     }
 }
@@ -93,14 +145,12 @@ fn serve<K: Sink, D: Disk>(
     store: &mut Store<D>,
     command: &Command,
 ) -> Result<(), Ended>
-    requires { store.old.sequence + 1 < 2 ^ 56 }
+    requires { HasRoom store.old }
     ensures done { (start : Option Story) (outcome : Outcome) → Stands start store.old outcome → ServedOr start
         (record { bytes = K.taken sink.old; faults = K.faults sink.old }) (record { bytes = K.taken sink.new; faults = K.faults sink.new })
         store.old store.new outcome command.now result }
     ensures later { K.faults sink.old ≤ K.faults sink.new }
-    ensures counts { SeenStay store.old.disk store.new.disk }
-    ensures sequence { store.new.sequence ≤ store.old.sequence + 1 }
-    ensures log { store.new.log ≡ store.old.log }
+    ensures line { ByOneLine store.old store.new }
 {
     match answer(alloc, store, command) {
         Ok(text) => match sink.write(text.as_slice()) {
@@ -121,14 +171,12 @@ fn do_line<K: Sink, D: Disk>(
     number: u64,
 ) -> Result<(), Ended>
     requires short { length line.now ≤ 8388608 }
-    requires room { store.old.sequence + 1 < 2 ^ 56 }
+    requires room { HasRoom store.old }
     ensures done { (start : Option Story) (outcome : Outcome) → Stands start store.old outcome → actors.old ≡ outcome.after.actors → DoneOr start
         (record { bytes = K.taken sink.old; faults = K.faults sink.old }) (record { bytes = K.taken sink.new; faults = K.faults sink.new })
         store.old store.new actors.new outcome line.now number result }
     ensures later { K.faults sink.old ≤ K.faults sink.new }
-    ensures counts { SeenStay store.old.disk store.new.disk }
-    ensures sequence { store.new.sequence ≤ store.old.sequence + 1 }
-    ensures log { store.new.log ≡ store.old.log }
+    ensures line { ByOneLine store.old store.new }
 {
     match actors.parse(alloc, line) {
         Err(NoMemory) => Err(Ended::NoMemory),
@@ -152,16 +200,15 @@ fn turn<S: Source, K: Sink, D: Disk>(
     number: u64,
 ) -> Result<(), Ended>
     requires few { number ≤ 10000000 }
-    requires room { store.old.sequence < number }
+    requires sequence { store.old.sequence ≤ 1024 * (number - 1) }
+    requires len { store.old.len ≤ 67108864 * (number - 1) }
     ensures turned { (start : Option Story) (first : Met) (done : List (List ℕ)) (outcome : Outcome)
         → Underway start (now first (record { bytes = S.left source.old; faults = S.faults source.old }) (record { bytes = K.taken sink.old; faults = K.faults sink.old }) store.old.disk) store.old actors.old done outcome
         → number ≡ length done + 1
         → TurnedOr start (now first (record { bytes = S.left source.new; faults = S.faults source.new }) (record { bytes = K.taken sink.new; faults = K.faults sink.new }) store.new.disk) store.new actors.new done result }
     ensures source_later { S.faults source.old ≤ S.faults source.new }
     ensures sink_later { K.faults sink.old ≤ K.faults sink.new }
-    ensures counts { SeenStay store.old.disk store.new.disk }
-    ensures sequence { store.new.sequence ≤ store.old.sequence + 1 }
-    ensures log { store.new.log ≡ store.old.log }
+    ensures line { ByOneLine store.old store.new }
 {
     match read_line(source, line) {
         Ok(Piece::Line) => do_line(alloc, sink, store, actors, line.as_slice(), number),
@@ -196,7 +243,8 @@ fn run<S: Source, K: Sink, D: Disk>(
     sink: &mut K,
     store: &mut Store<D>,
 ) -> Ended
-    requires { store.old.sequence ≡ 0 }
+    requires sequence { store.old.sequence ≡ 0 }
+    requires len { store.old.len ≡ 0 }
     ensures ran { (start : Option Story) → Stands start store.old (told empty [])
         → Ran start (met S.left S.faults K.taken K.faults source.old source.new sink.old sink.new store.old.disk store.new.disk) store.new result }
     ensures log { store.new.log ≡ store.old.log }
@@ -211,6 +259,21 @@ fn run<S: Source, K: Sink, D: Disk>(
         }
     }
     behind(source)
+}
+
+// Makes all writes durable where the source was read to its end.
+fn close<D: Disk>(store: &mut Store<D>, ended: Ended) -> Ended
+    ensures closed { (start : Option Story) (first : Met) (source sink : Stream) → CountsStay (now first source sink store.old.disk) → Ran start (now first source sink store.old.disk) store.old ended
+        → Closed start (now first source sink store.new.disk) store.new result }
+    ensures line { ByOneLine store.old store.new }
+{
+    match ended {
+        Ended::Finished => match store.sync() {
+            Ok(()) => Ended::Finished,
+            Err(error) => broken(error),
+        },
+        other => other,
+    }
 }
 
 /// Runs a script over a new store in the folder `db` of the store's disk. The runtime, the sessions, the clock and the
@@ -236,6 +299,7 @@ pub fn run_script<R: Threads + Sync, S: Source, K: Sink, D: Disk, B: Disk, N: Se
         Ok(store) => {
             let mut store = store;
             let ended = run(alloc, source, sink, &mut store);
+            let ended = close(&mut store, ended);
             let status = end(alloc, sink, db, ended);
             Done {
                 status,

@@ -2,6 +2,7 @@ pub mod Cuts
 pub mod Files
 pub mod Paths
 pub mod Images
+pub mod Named
 pub mod Kept
 pub mod Runs
 pub mod Now

@@ -1,5 +1,5 @@
 -- How runs of calls compose.
-use Rattle.std.specs.Prelude.{◌≡◌, ◌⊎◌, ℕ, zero, suc, ◌+◌, ◌-◌, ◌≤◌, List, [], ◌∷◌, ◌++◌, length, take, Option, Some, option_map}
+use Rattle.std.specs.Prelude.{◌≡◌, ◌⊎◌, ℕ, zero, suc, ◌+◌, ◌-◌, ◌≤◌, List, [], ◌∷◌, ◌++◌, length, take, Option, Some, option_map, IfSome}
 use Rattle.std.proofs.Common.{inl, inr, ⊎_elim, refl, sym, ap, subst, ◌∙◌, arith, append_assoc, length-append}
 use Rattle.std.proofs.lemmas.Bool.{cases_lt}
 use Rattle.std.proofs.lemmas.List.{append-nil, take-append-le}
@@ -7,7 +7,7 @@ use Rattle.lsm_disk.specs.State.{State, Story, Change, FileState, after, after_a
 use Rattle.lsm_disk.specs.Images.{Tree, IsImage}
 use Rattle.lsm_disk.specs.Goes.{Each, Shows, Along, GoesOn, Went, LeavesOnly}
 use Rattle.lsm_disk.specs.Kept.{IsKeptFile, Spares}
-use Rattle.lsm_disk.specs.Answers.{then_change, pushed, Makes, MakesFront, LeftBy, Allowed}
+use Rattle.lsm_disk.specs.Answers.{then_change, pushed, Makes, MakesFront, LeftBy, Allowed, RefusesBy}
 use Rattle.lsm_disk.specs.Refusals.{no_file}
 use Rattle.lsm_disk.specs.declared.calls.DiskError.{DiskError}
 use Rattle.lsm_disk.specs.declared.calls.DiskError.TheVariants.{Fault, NotThere, Exists, NoLinks, NotEmpty, Short, NoMemory}
@@ -163,3 +163,45 @@ module _ {start : Story} {q : Change → Type 0} {P : State → Tree → Type 0}
       (λ same. went_weaker I (λ s. I s ⊎ ((n : ℕ) × J n s)) (λ s i. inl i) (went_stay same w))
       (λ made. let part = made.1 in went_weaker (J part.0) (λ s. I s ⊎ ((n : ℕ) × J n s)) (λ s j. inr (part.0, j)) (went_ok I (J part.0) (appended path (take part.0 bytes)) part.1 (kind part.0) (step part.0) (shows part.0) w))
       (left_cases (now ≡ told) (Allowed (no_file path) told × MakesFront path bytes told now) e did)
+
+  -- a call that was refused, or whose fault may have done it, with why
+  refused_same : {told now : Option Story} (I J : State → Type 0) (refusal : State → Option DiskError) (e : DiskError) → now ≡ told → IfSome told (λ story. RefusesBy (refusal (state_of story)) e) → Went start told q P I
+      → Went start now q P (λ s. (I s ⊎ J s) × RefusesBy (refusal s) e)
+  refused_same I J refusal e same by w = record {
+    story = w.story;
+    tells = same ∙ w.tells;
+    goes = w.goes;
+    now = (inl w.now, subst (λ (o : Option Story). IfSome o (λ story. RefusesBy (refusal (state_of story)) e)) w.tells by);
+  }
+
+  pub went_refused : {told now : Option Story} (I J : State → Type 0) (c : State → Change) (refusal : State → Option DiskError) (e : DiskError) → LeftBy (now ≡ told) (Allowed refusal told × Makes told c now) e → IfSome told (λ story. RefusesBy (refusal (state_of story)) e)
+      → ((s : State) → I s → q (c s)) → ((s : State) → I s → J (after s (c s))) → ((s : State) → J s → Shows P s) → Went start told q P I → Went start now q P (λ s. (I s ⊎ J s) × RefusesBy (refusal s) e)
+  went_refused I J c refusal Fault did by kind step shows w = went_weaker (λ s. I s ⊎ J s) (λ s. (I s ⊎ J s) × Unit {0}) (λ s i. (i, tt)) (went_err I J c refusal Fault did kind step shows w)
+  went_refused I J c refusal NotThere did by kind step shows w = refused_same I J refusal NotThere did by w
+  went_refused I J c refusal Exists did by kind step shows w = refused_same I J refusal Exists did by w
+  went_refused I J c refusal NoLinks did by kind step shows w = refused_same I J refusal NoLinks did by w
+  went_refused I J c refusal NotEmpty did by kind step shows w = refused_same I J refusal NotEmpty did by w
+  went_refused I J c refusal (Short found) did by kind step shows w = refused_same I J refusal (Short found) did by w
+  went_refused I J c refusal NoMemory did by kind step shows w = refused_same I J refusal NoMemory did by w
+
+  -- the same of an append
+  pub went_append_refused : {told now : Option Story} (I : State → Type 0) (J : ℕ → State → Type 0) (path bytes : List ℕ) (e : DiskError) → LeftBy (now ≡ told) (Allowed (no_file path) told × MakesFront path bytes told now) e → IfSome told (λ story. RefusesBy (no_file path (state_of story)) e)
+      → ((n : ℕ) (s : State) → I s → q (appended path (take n bytes) s)) → ((n : ℕ) (s : State) → I s → J n (after s (appended path (take n bytes) s))) → ((n : ℕ) (s : State) → J n s → Shows P s)
+      → Went start told q P I → Went start now q P (λ s. (I s ⊎ ((n : ℕ) × J n s)) × RefusesBy (no_file path s) e)
+  went_append_refused I J path bytes Fault did by kind step shows w = went_weaker (λ s. I s ⊎ ((n : ℕ) × J n s)) (λ s. (I s ⊎ ((n : ℕ) × J n s)) × Unit {0}) (λ s i. (i, tt)) (went_append_err I J path bytes Fault did kind step shows w)
+  went_append_refused I J path bytes NotThere did by kind step shows w = refused_same I (λ s. (n : ℕ) × J n s) (no_file path) NotThere did by w
+  went_append_refused I J path bytes Exists did by kind step shows w = refused_same I (λ s. (n : ℕ) × J n s) (no_file path) Exists did by w
+  went_append_refused I J path bytes NoLinks did by kind step shows w = refused_same I (λ s. (n : ℕ) × J n s) (no_file path) NoLinks did by w
+  went_append_refused I J path bytes NotEmpty did by kind step shows w = refused_same I (λ s. (n : ℕ) × J n s) (no_file path) NotEmpty did by w
+  went_append_refused I J path bytes (Short found) did by kind step shows w = refused_same I (λ s. (n : ℕ) × J n s) (no_file path) (Short found) did by w
+  went_append_refused I J path bytes NoMemory did by kind step shows w = refused_same I (λ s. (n : ℕ) × J n s) (no_file path) NoMemory did by w
+
+  -- one function after another
+  pub went_then : {told now : Option Story} {I J : State → Type 0} → Went start told q P I → ((mid : Story) → told ≡ Some mid → I (state_of mid) → Went mid now q P J) → Went start now q P J
+  went_then w next =
+      let later = next w.story w.tells w.now in
+      record { story = later.story; tells = later.tells; goes = goes_trans w.goes later.goes; now = later.now }
+
+-- a wider kind, and less of the images
+pub went_wider : {start : Story} {told : Option Story} {I : State → Type 0} (q r : Change → Type 0) (P R : State → Tree → Type 0) → ((c : Change) → q c → r c) → ((s : State) (t : Tree) → P s t → R s t) → Went start told q P I → Went start told r R I
+went_wider q r P R f h w = record { story = w.story; tells = w.tells; goes = goes_weaker q r P R f h w.goes; now = w.now }

@@ -1,2 +1,11 @@
 pub mod Begins
 pub mod Frames
+pub mod Records
+pub mod Growth
+pub mod Chance
+pub mod Grammar
+pub mod Reading
+pub mod Loaded
+pub mod Refusals
+pub mod Reader
+pub mod Found

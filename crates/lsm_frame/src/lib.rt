@@ -2,11 +2,26 @@
 //! records.
 #![tactic(auto)]
 
+mod ending;
+mod found;
 mod laws;
+mod loaded;
+mod next;
 mod pieces;
+mod reader;
+#[cfg(test)]
+mod reader_tests;
+mod steps;
 #[cfg(test)]
 mod tests;
 mod writer;
 
-pub use laws::{log_text_grows, writer_stays_at_the_end};
+pub use ending::Ending;
+pub use laws::{
+    alike_reads_alike, crashed_log_is_read, cut_log_is_read, grammar_ends_whole, log_is_read,
+    log_text_grows, longer_cut_reads_more, record_is_read, records_come_in_turn, stays_read,
+    writer_stays_at_the_end,
+};
+pub use next::{FrameError, Next};
+pub use reader::FrameReader;
 pub use writer::FrameWriter;

@@ -26,7 +26,8 @@ fn kind(begun: bool, ends: bool) -> u8
     }
 }
 
-fn checksum(kind: u8, part: &[u8]) -> u32
+/// The checksum that a piece of this kind and part keeps.
+pub(crate) fn checksum(kind: u8, part: &[u8]) -> u32
     ensures { result ≡ masked (crc32c (kind ∷ part.now)) }
 {
     let mut crc = Crc::new();

@@ -1,7 +1,2 @@
-pub mod Histories
-pub mod Tables
-pub mod Ties
-pub mod Rooms
 pub mod Plans
-pub mod Crashes
-pub mod Replays
+pub mod Failing

@@ -1,11 +1,3 @@
-pub mod What
-pub mod Target
-pub mod Table
-pub mod History
-pub mod Told
-pub mod Room
 pub mod Plan
 pub mod View
 pub mod Disk
-pub mod Crash
-pub mod Replay

@@ -5,6 +5,8 @@ use Rattle.std.specs.Coded.{Coded, code_by, coded×, coded⊎, coded_ℕ, coded_
 use base.Stored.{coded_unit}
 use Rattle.lsm_memdisk.specs.declared.plan.Effect.{Effect}
 use Rattle.lsm_memdisk.specs.declared.plan.Effect.TheVariants.{Nothing, Done, Part}
+use Rattle.lsm_memdisk.specs.declared.plan.Turn.{Turn}
+use Rattle.lsm_memdisk.specs.declared.plan.Turn.TheVariants.{Works, Fails, FailsBehind}
 
 pub record Shown : Type 0 where
   -- how many calls there were
@@ -40,6 +42,13 @@ stops (Some first) call = nat_le first call
 -- what the next call has done, where it is to fail; a stop goes before the entries
 abbrev pub planned : Shown → Option Effect
 planned p = if stops p.stop (next_call p) then Some Nothing else last_for (next_call p) p.faults
+
+-- a part of a call that changes all or nothing is nothing
+abbrev pub turn_of : Option Effect → Turn
+turn_of None = Works
+turn_of (Some Nothing) = Fails
+turn_of (Some Done) = FailsBehind
+turn_of (Some (Part n)) = Fails
 
 abbrev pub begun : Shown → Shown
 begun p = record p { calls = next_call p }

@@ -9,18 +9,18 @@ ghost use Rattle.lsm_disk.specs.Listing.{listing};
 ghost use Rattle.lsm_disk.specs.Viewed.{opened};
 ghost use Rattle.lsm_disk.specs.Refusals.{never, no_file, no_folder, no_room, no_link, no_view, no_rename, no_removal};
 ghost use Rattle.lsm_disk.specs.Answers.{Did, Appends, Answers, TakesNoMemory, HasCause};
-ghost use Rattle.lsm_memdisk.specs.Told.{blank_seen};
-ghost use Rattle.lsm_memdisk.specs.Crash.{IsCrashOf};
-ghost use Rattle.lsm_memdisk.specs.History.{appended_in};
+ghost use Rattle.lsm_volume.specs.Told.{blank_seen};
+ghost use Rattle.lsm_volume.specs.Crash.{IsCrashOf};
+ghost use Rattle.lsm_changes.specs.History.{appended_in};
 ghost use Rattle.lsm_memdisk.specs.Plan.{blank_plan, with_fault, with_stop};
-ghost use Rattle.lsm_memdisk.specs.Disk.{Follows, with_plan, with_reads, reads_for, next_view};
+ghost use Rattle.lsm_memdisk.specs.Disk.{Follows, Obeys, whole, front, failed, with_plan, with_reads, reads_for, next_view};
 
-use crate::plan::{Effect, Plan};
+use crate::plan::{Effect, Plan, Turn};
 use crate::view::MemView;
-use crate::volume::Volume;
 use lsm_bytes::NoMemory;
 use lsm_disk::{Disk, DiskError, Kind, Listing};
 use lsm_names::Path;
+use lsm_volume::Volume;
 use std::alloc::{AllocError, Global};
 use std::marker::Model;
 
@@ -68,7 +68,8 @@ impl MemDisk {
     }
 
     /// Lets the call of this number, counted from 1, answer `Fault` with this effect. Of several
-    /// entries for one call the last one holds.
+    /// entries for one call the last one holds. Where the effect wants memory that isn't there, the
+    /// call answers `NoMemory` and nothing is done.
     pub fn fail_at(&mut self, call: u64, effect: Effect) -> Result<(), NoMemory>
         ensures ok { OnOk result (self.new ≡ with_plan (with_fault call effect) self.old) }
         ensures err { OnErr result (self.new ≡ self.old) }
@@ -153,12 +154,28 @@ fn reads_of(alloc: Global, reads: &[(u64, u64)], view: u64) -> Result<Vec<u64>, 
 
 /// The first bytes, so many, and all where there are fewer.
 fn front_of(bytes: &[u8], len: u64) -> &[u8]
-    ensures { (n : _) × (result.now ≡ take n bytes.now) }
+    ensures { result.now ≡ take len bytes.now }
 {
     if len < bytes.len() as u64 {
         bytes.split_at(len as usize).0
     } else {
         bytes
+    }
+}
+
+/// The answer of a call that is made to fail, where this was done or refused. Want of memory comes
+/// before the fault.
+fn fail(volume: &mut Volume, done: Result<(), DiskError>) -> Result<(), DiskError>
+    ensures answer { result ≡ failed done }
+    ensures told { volume.new.told ≡ volume.old.told }
+    ensures cause { HasCause volume.old volume.new result }
+{
+    match done {
+        Err(DiskError::NoMemory) => Err(DiskError::NoMemory),
+        _ => {
+            volume.count_fault();
+            Err(DiskError::Fault)
+        }
     }
 }
 
@@ -264,18 +281,17 @@ impl Disk for MemDisk {
         ensures answer { Answers (no_room path.now) self.old.disk result }
         ensures cause { HasCause self.old.disk self.new.disk result }
         ensures lawful { TellsLawful self.old.disk }
-        ensures follows { Follows self.old self.new result }
+        ensures obeys { Obeys (whole (created path.now)) (no_room path.now) self.old self.new result }
     {
-        match self.plan.begin() {
-            None => self.volume.create(path),
-            Some(Effect::Done) => {
-                let _ = self.volume.create(path);
+        match self.plan.begin_whole() {
+            Turn::Works => self.volume.create(path),
+            Turn::Fails => {
                 self.volume.count_fault();
                 Err(DiskError::Fault)
             }
-            Some(_) => {
-                self.volume.count_fault();
-                Err(DiskError::Fault)
+            Turn::FailsBehind => {
+                let done = self.volume.create(path);
+                fail(&mut self.volume, done)
             }
         }
     }
@@ -285,24 +301,21 @@ impl Disk for MemDisk {
         ensures answer { Answers (no_file path.now) self.old.disk result }
         ensures cause { HasCause self.old.disk self.new.disk result }
         ensures lawful { TellsLawful self.old.disk }
-        ensures follows { Follows self.old self.new result }
+        ensures obeys { Obeys (front path.now bytes.now) (no_file path.now) self.old self.new result }
     {
         match self.plan.begin() {
             None => self.volume.append(path, bytes),
-            Some(Effect::Done) => {
-                let _ = self.volume.append(path, bytes);
+            Some(Effect::Nothing) => {
                 self.volume.count_fault();
                 Err(DiskError::Fault)
+            }
+            Some(Effect::Done) => {
+                let done = self.volume.append(path, bytes);
+                fail(&mut self.volume, done)
             }
             Some(Effect::Part(len)) => {
-                let part = front_of(bytes, len);
-                let _ = self.volume.append(path, part);
-                self.volume.count_fault();
-                Err(DiskError::Fault)
-            }
-            Some(_) => {
-                self.volume.count_fault();
-                Err(DiskError::Fault)
+                let done = self.volume.append(path, front_of(bytes, len));
+                fail(&mut self.volume, done)
             }
         }
     }
@@ -313,18 +326,17 @@ impl Disk for MemDisk {
         ensures memory { TakesNoMemory result }
         ensures cause { HasCause self.old.disk self.new.disk result }
         ensures lawful { TellsLawful self.old.disk }
-        ensures follows { Follows self.old self.new result }
+        ensures obeys { Obeys (whole (file_synced path.now)) (no_file path.now) self.old self.new result }
     {
-        match self.plan.begin() {
-            None => self.volume.sync(path),
-            Some(Effect::Done) => {
-                let _ = self.volume.sync(path);
+        match self.plan.begin_whole() {
+            Turn::Works => self.volume.sync(path),
+            Turn::Fails => {
                 self.volume.count_fault();
                 Err(DiskError::Fault)
             }
-            Some(_) => {
-                self.volume.count_fault();
-                Err(DiskError::Fault)
+            Turn::FailsBehind => {
+                let done = self.volume.sync(path);
+                fail(&mut self.volume, done)
             }
         }
     }
@@ -334,18 +346,17 @@ impl Disk for MemDisk {
         ensures answer { Answers (no_link from.now to.now) self.old.disk result }
         ensures cause { HasCause self.old.disk self.new.disk result }
         ensures lawful { TellsLawful self.old.disk }
-        ensures follows { Follows self.old self.new result }
+        ensures obeys { Obeys (whole (linked from.now to.now)) (no_link from.now to.now) self.old self.new result }
     {
-        match self.plan.begin() {
-            None => self.volume.link(from, to),
-            Some(Effect::Done) => {
-                let _ = self.volume.link(from, to);
+        match self.plan.begin_whole() {
+            Turn::Works => self.volume.link(from, to),
+            Turn::Fails => {
                 self.volume.count_fault();
                 Err(DiskError::Fault)
             }
-            Some(_) => {
-                self.volume.count_fault();
-                Err(DiskError::Fault)
+            Turn::FailsBehind => {
+                let done = self.volume.link(from, to);
+                fail(&mut self.volume, done)
             }
         }
     }
@@ -355,18 +366,17 @@ impl Disk for MemDisk {
         ensures answer { Answers (no_rename from.now to.now) self.old.disk result }
         ensures cause { HasCause self.old.disk self.new.disk result }
         ensures lawful { TellsLawful self.old.disk }
-        ensures follows { Follows self.old self.new result }
+        ensures obeys { Obeys (whole (renamed_by from.now to.now)) (no_rename from.now to.now) self.old self.new result }
     {
-        match self.plan.begin() {
-            None => self.volume.rename(from, to),
-            Some(Effect::Done) => {
-                let _ = self.volume.rename(from, to);
+        match self.plan.begin_whole() {
+            Turn::Works => self.volume.rename(from, to),
+            Turn::Fails => {
                 self.volume.count_fault();
                 Err(DiskError::Fault)
             }
-            Some(_) => {
-                self.volume.count_fault();
-                Err(DiskError::Fault)
+            Turn::FailsBehind => {
+                let done = self.volume.rename(from, to);
+                fail(&mut self.volume, done)
             }
         }
     }
@@ -377,18 +387,17 @@ impl Disk for MemDisk {
         ensures memory { TakesNoMemory result }
         ensures cause { HasCause self.old.disk self.new.disk result }
         ensures lawful { TellsLawful self.old.disk }
-        ensures follows { Follows self.old self.new result }
+        ensures obeys { Obeys (whole (unnamed path.now)) (no_file path.now) self.old self.new result }
     {
-        match self.plan.begin() {
-            None => self.volume.unlink(path),
-            Some(Effect::Done) => {
-                let _ = self.volume.unlink(path);
+        match self.plan.begin_whole() {
+            Turn::Works => self.volume.unlink(path),
+            Turn::Fails => {
                 self.volume.count_fault();
                 Err(DiskError::Fault)
             }
-            Some(_) => {
-                self.volume.count_fault();
-                Err(DiskError::Fault)
+            Turn::FailsBehind => {
+                let done = self.volume.unlink(path);
+                fail(&mut self.volume, done)
             }
         }
     }
@@ -398,18 +407,17 @@ impl Disk for MemDisk {
         ensures answer { Answers (no_room path.now) self.old.disk result }
         ensures cause { HasCause self.old.disk self.new.disk result }
         ensures lawful { TellsLawful self.old.disk }
-        ensures follows { Follows self.old self.new result }
+        ensures obeys { Obeys (whole (folder_made path.now)) (no_room path.now) self.old self.new result }
     {
-        match self.plan.begin() {
-            None => self.volume.make_folder(path),
-            Some(Effect::Done) => {
-                let _ = self.volume.make_folder(path);
+        match self.plan.begin_whole() {
+            Turn::Works => self.volume.make_folder(path),
+            Turn::Fails => {
                 self.volume.count_fault();
                 Err(DiskError::Fault)
             }
-            Some(_) => {
-                self.volume.count_fault();
-                Err(DiskError::Fault)
+            Turn::FailsBehind => {
+                let done = self.volume.make_folder(path);
+                fail(&mut self.volume, done)
             }
         }
     }
@@ -420,18 +428,17 @@ impl Disk for MemDisk {
         ensures memory { TakesNoMemory result }
         ensures cause { HasCause self.old.disk self.new.disk result }
         ensures lawful { TellsLawful self.old.disk }
-        ensures follows { Follows self.old self.new result }
+        ensures obeys { Obeys (whole (unnamed path.now)) (no_removal path.now) self.old self.new result }
     {
-        match self.plan.begin() {
-            None => self.volume.remove_folder(path),
-            Some(Effect::Done) => {
-                let _ = self.volume.remove_folder(path);
+        match self.plan.begin_whole() {
+            Turn::Works => self.volume.remove_folder(path),
+            Turn::Fails => {
                 self.volume.count_fault();
                 Err(DiskError::Fault)
             }
-            Some(_) => {
-                self.volume.count_fault();
-                Err(DiskError::Fault)
+            Turn::FailsBehind => {
+                let done = self.volume.remove_folder(path);
+                fail(&mut self.volume, done)
             }
         }
     }
@@ -442,18 +449,17 @@ impl Disk for MemDisk {
         ensures memory { TakesNoMemory result }
         ensures cause { HasCause self.old.disk self.new.disk result }
         ensures lawful { TellsLawful self.old.disk }
-        ensures follows { Follows self.old self.new result }
+        ensures obeys { Obeys (whole names_synced) never self.old self.new result }
     {
-        match self.plan.begin() {
-            None => self.volume.sync_names(),
-            Some(Effect::Done) => {
-                let _ = self.volume.sync_names();
+        match self.plan.begin_whole() {
+            Turn::Works => self.volume.sync_names(),
+            Turn::Fails => {
                 self.volume.count_fault();
                 Err(DiskError::Fault)
             }
-            Some(_) => {
-                self.volume.count_fault();
-                Err(DiskError::Fault)
+            Turn::FailsBehind => {
+                let done = self.volume.sync_names();
+                fail(&mut self.volume, done)
             }
         }
     }

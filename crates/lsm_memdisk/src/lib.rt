@@ -3,15 +3,10 @@
 #![tactic(auto)]
 
 mod disk;
-mod file;
-mod history;
-mod places;
 mod plan;
-mod table;
 #[cfg(test)]
 mod tests;
 mod view;
-mod volume;
 
 pub use disk::MemDisk;
 pub use plan::Effect;

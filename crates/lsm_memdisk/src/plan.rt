@@ -1,6 +1,6 @@
 //! Which calls of a disk are to fail.
 ghost use Rattle.std.specs.Prelude.{◌≡◌, ◌++◌, ◌∷◌, [], Some, None, OnOk, OnErr};
-ghost use Rattle.lsm_memdisk.specs.Plan.{blank_plan, begun, planned, last_for, or_first, effect_at, earlier, with_stop, with_fault, stops};
+ghost use Rattle.lsm_memdisk.specs.Plan.{blank_plan, begun, planned, last_for, or_first, effect_at, earlier, with_stop, with_fault, stops, turn_of};
 
 use lsm_bytes::NoMemory;
 use std::alloc::Global;
@@ -15,6 +15,17 @@ pub enum Effect {
     Done,
     /// An append: its first bytes, so many, and all where it has fewer. Any other call: nothing.
     Part(u64),
+}
+
+/// What becomes of a call that changes all or nothing.
+#[derive(Clone, Copy, Debug, PartialEq, Eq)]
+pub enum Turn {
+    /// It isn't planned to fail.
+    Works,
+    /// It fails, and nothing is done.
+    Fails,
+    /// It fails once all is done.
+    FailsBehind,
 }
 
 /// How many calls there were, and which are to fail. Calls are counted from 1.
@@ -80,6 +91,18 @@ fn earlier(stop: Option<u64>, call: u64) -> u64
     }
 }
 
+/// What an effect is to a call that changes all or nothing.
+fn turn_of(effect: Option<Effect>) -> Turn
+    ensures { result ≡ turn_of effect }
+{
+    match effect {
+        None => Turn::Works,
+        Some(Effect::Done) => Turn::FailsBehind,
+        Some(Effect::Nothing) => Turn::Fails,
+        Some(Effect::Part(_)) => Turn::Fails,
+    }
+}
+
 impl Plan {
     pub fn new(alloc: Global) -> Plan
         ensures { result ≡ blank_plan }
@@ -102,6 +125,14 @@ impl Plan {
         } else {
             last_for(self.calls, &self.faults)
         }
+    }
+
+    /// The same for a call that changes all or nothing.
+    pub fn begin_whole(&mut self) -> Turn
+        ensures turn { result ≡ turn_of (planned self.old) }
+        ensures plan { self.new ≡ begun self.old }
+    {
+        turn_of(self.begin())
     }
 
     /// Lets the call of this number fail.

@@ -6,14 +6,18 @@ use Rattle.lsm_bytes.specs.declared.no_memory.NoMemory.{NoMemory}
 use Rattle.ldb_script.specs.Printed.{value_line}
 use Rattle.ldb_script.specs.Doing.{AnsweredOr}
 use Rattle.ldb_script.specs.declared.line.Command.{Command}
-use Rattle.ldb_script.specs.declared.line.Command.TheVariants.{Put}
+use Rattle.ldb_script.specs.declared.line.Command.TheVariants.{Write}
 use Rattle.ldb_script.proofs.Serving.{get_answers}
 use Rattle.ldb_script.proofs.script.answer.Goals as goal
 
-pub returns-in-Put-clause-done : goal.returns-in-Put-clause-done
-returns-in-Put-clause-done g c start outcome was =
-    subst (λ (command : Command). AnsweredOr start c.args.store.now c.answer_put.new.store outcome command c.answer_put.result)
-    ((λ i. Put (c.as_slice.ensures i) (c.as_slice-in-Put.ensures i)) ∙ sym c.in-Put.is) (c.answer_put.ensures.done start outcome was)
+pub returns-in-Write-clause-done : goal.returns-in-Write-clause-done
+returns-in-Write-clause-done g c start outcome was =
+    subst (λ (command : Command). AnsweredOr start c.args.store.now c.answer_write.new.store outcome command c.answer_write.result)
+    (ap (Write c.in-Write.durable) c.as_slice.ensures.ops ∙ sym c.in-Write.is) (c.answer_write.ensures.done start outcome was)
+
+pub returns-in-Sync-clause-done : goal.returns-in-Sync-clause-done
+returns-in-Sync-clause-done g c start outcome was =
+    subst (λ (command : Command). AnsweredOr start c.args.store.now c.answer_sync.new.store outcome command c.answer_sync.result) (sym c.in-Sync.is) (c.answer_sync.ensures.done start outcome was)
 
 pub returns-in-Get-clause-done : goal.returns-in-Get-clause-done
 returns-in-Get-clause-done g c start outcome was =

@@ -9,7 +9,9 @@ loop-number-init g c = record {
   sink_later = omega arith;
   stay = record { faults = omega arith; refusals = omega arith };
   log = refl;
-  room = omega (arith, c.requires);
+  first = omega arith;
+  sequence = omega (arith, c.requires.sequence);
+  len = omega (arith, c.requires.len);
   under = λ start stood. (
     [],
     _,
@@ -30,9 +32,11 @@ loop-number-preserved g c =
     let inv = c.loop-number.invariant in record {
       source_later = omega (arith, inv.source_later, c.in-Ok.ensures.source_later);
       sink_later = omega (arith, inv.sink_later, c.in-Ok.ensures.sink_later);
-      stay = record { faults = omega (arith, inv.stay.faults, c.in-Ok.ensures.counts.faults); refusals = omega (arith, inv.stay.refusals, c.in-Ok.ensures.counts.refusals) };
-      log = cc (inv.log, c.in-Ok.ensures.log);
-      room = omega (arith, inv.room, c.in-Ok.ensures.sequence);
+      stay = record { faults = omega (arith, inv.stay.faults, c.in-Ok.ensures.line.counts.faults); refusals = omega (arith, inv.stay.refusals, c.in-Ok.ensures.line.counts.refusals) };
+      log = cc (inv.log, c.in-Ok.ensures.line.log);
+      first = omega (arith, inv.first);
+      sequence = omega (arith, inv.first, inv.sequence, c.in-Ok.ensures.line.sequence);
+      len = omega (arith, inv.first, inv.len, c.in-Ok.ensures.line.len);
       under = λ start stood.
           let first : Met = met g.S.Source.left g.S.Source.faults g.K.Sink.taken g.K.Sink.faults c.args.source.now c.args.source.now c.args.sink.now c.args.sink.now c.args.store.now.disk c.args.store.now.disk in
           let u = inv.under start stood in

@@ -1,4 +1,4 @@
-use Rattle.std.proofs.Common.{subst, ◌∙◌}
+use Rattle.std.proofs.Common.{◌≡◌, ◌++◌, ℕ, List, inr, subst, ◌∙◌}
 use Rattle.std.specs.Io.KnownBytes.{Appends}
 use Rattle.ldb_script.specs.Run.{Stream}
 use Rattle.ldb_script.proofs.Serving.{unserved}
@@ -18,3 +18,15 @@ pub returns-clause-done : goal.returns-clause-done
 returns-clause-done g c start outcome was =
     let sink : Stream = record { bytes = g.K.Sink.taken c.args.sink.now; faults = g.K.Sink.faults c.args.sink.now } in
     unserved start sink sink c.args.store.now c.answer.new.store outcome c.args.command.now c.in-Err.ended (c.in-Err.ensures.done start outcome was)
+
+pub returns-in-Ok-clause-done : goal.returns-in-Ok-clause-done
+returns-in-Ok-clause-done g c start outcome was =
+    let a = c.in-Ok.ensures.done start outcome was in
+    let took = subst (λ (text : List ℕ). (front : List ℕ) × (rest : List ℕ) × (text ≡ front ++ rest) × Appends (g.K.Sink.taken c.args.sink.now) (g.K.Sink.taken c.write.new.self) front) (c.as_slice.ensures ∙ a.is_text) c.in-Err-write.ensures.bytes in
+    record {
+      next = a.next;
+      answers = a.answers;
+      spoke = record { front = took.0; rest = took.1; parts = took.2; took = took.3; whole = inr c.in-Err-write.ensures.cause.failed };
+      rose = c.in-Err-write.ensures.cause.failed;
+      stands = a.stands;
+    }

@@ -1,0 +1,10 @@
+pub mod BackLemmas
+pub mod DigitLemmas
+pub mod FileLemmas
+pub mod LineLemmas
+pub mod MetaLemmas
+pub mod NumberLemmas
+pub mod PrintLemmas
+pub mod ReadingLemmas
+pub mod RoundLemmas
+pub mod SetLemmas

@@ -1,0 +1,4 @@
+pub mod BackupFiles
+pub mod Lines
+pub mod Metas
+pub mod Numbers

@@ -1,0 +1,5 @@
+pub mod BlockText
+pub mod Blocks
+pub mod Parts
+pub mod Seek
+pub mod TableText

@@ -1,0 +1,4 @@
+pub mod What
+pub mod History
+pub mod Files
+pub mod Replay

@@ -1,9 +1,0 @@
-use Rattle.std.proofs.Common.{◌≤◌, length, drop}
-use Rattle.lsm_memdisk.specs.Replay.{changes, Quiet}
-use Rattle.lsm_memdisk.proofs.history.kept_steps.Given as goal
-
-abbrev pub invariant-loop-turn : goal.invariant-loop-turn
-invariant-loop-turn l = record {
-  within : l.count ≤ length l.steps;
-  quiet : Quiet (drop l.count (changes l.steps));
-}

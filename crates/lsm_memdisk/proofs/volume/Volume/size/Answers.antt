@@ -1,9 +1,0 @@
-use Rattle.std.proofs.Common.{◌<◌, length, rules}
-use Rattle.lsm_memdisk.proofs.Ties.{file_within}
-use Rattle.lsm_memdisk.proofs.volume.Volume.size.Goals as goal
-
-pub len_at-requires : goal.len_at-requires
-len_at-requires c =
-    let m = c.self.inside in
-    let lt : c.in-Some.id < length m.files.items = file_within m.links m.names m.names_synced m.files.items _ c.as_bytes.result.now c.in-Some.id c.self.invariant.0 c.in-Some.ensures in
-    search (rules, lt)

@@ -1,0 +1,4 @@
+pub mod Olds
+pub mod Writing
+pub mod Switching
+pub mod Joining

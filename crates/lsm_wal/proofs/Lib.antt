@@ -1,0 +1,10 @@
+pub mod Changed
+pub mod Cuts
+pub mod Following
+pub mod Fronts
+pub mod Images
+pub mod Made
+pub mod Once
+pub mod Refused
+pub mod Steps
+pub mod Texts
