@@ -1,5 +1,7 @@
 -- Writing a block, entry by entry, and how long it gets.
 use Rattle.std.proofs.Common.{◌≡◌, ℕ, ◌+◌, ◌-◌, ◌^◌, ◌/◌, ◌<◌, ◌≤◌, List, [], ◌∷◌, ◌++◌, length, take, drop, get_or, refl, sym, ap, ◌∙◌, subst, arith, length-append, length-drop, take-append-drop}
+use Rattle.std.specs.Prelude.{Option, Some}
+use Rattle.std.specs.Option.{option_to_list}
 use Rattle.std.specs.Int.{w32, to_le_bytes}
 use Rattle.std.proofs.lemmas.Grind.{take_at_read}
 use Rattle.std.proofs.lemmas.List.{length-take-le, take_all}
@@ -50,7 +52,7 @@ written_all es n text noted before count whole done was counting joined =
     joined ∙ (λ i. (was.0 ∙ ap entries_text all) i ++ (counting ∙ ap (λ s. s ++ to_le_bytes w32 ((length es + 15) / 16)) (was.1 ∙ ap restarts_bytes all) ∙ sym (restarts_text-is es)) i) ∙ sym (block_text-is es)
 
 -- the parts of an entry that is added
-parts_long : (shared : ℕ) (rest value : List ℕ) → length rest + length value ≤ length (parts_text shared rest value)
+pub parts_long : (shared : ℕ) (rest value : List ℕ) → length rest + length value ≤ length (parts_text shared rest value)
 unfolding parts_text
 parts_long shared rest value =
     omega (arith, length-append (varint shared ++ varint (length rest) ++ varint (length value) ++ rest) value, length-append (varint shared ++ varint (length rest) ++ varint (length value)) rest)
@@ -127,3 +129,14 @@ may_add_next block es now n d key value are same so inside is key_is value_is =
     let e : Entry = record { key = key; value = value } in
     let entry : d ≡ e = λ i. record { key = sym key_is i; value = sym value_is i } in
     (subst IsKey (sym key_is) m.0, subst (IsPast now) (sym key_is) m.1, subst (λ x. length (entries_text (now ++ x ∷ [])) < 2 ^ 32) entry m.2)
+
+-- what a builder takes back
+pub taken_back : (items front seen : List Entry) (o : Option Entry) (e : Entry) (key value before rest : List ℕ) (count shared : ℕ) → AreEntries items → items ≡ front ++ option_to_list o → o ≡ Some e → seen ≡ front
+    → count ≡ length front → before ≡ last_key seen → key ≡ e.key → value ≡ e.value → shared ≡ shared_len count before key → rest ≡ drop shared key
+    → AreEntries front × (length (entries_text items) ≡ length (entries_text front) + length (parts_text shared rest value)) × (length rest + length value ≤ length (parts_text shared rest value))
+taken_back items front seen o e key value before rest count shared are popped is seen_is counted last key_is value_is shared_is rest_is =
+    let list : items ≡ front ++ e ∷ [] = popped ∙ ap (λ p. front ++ option_to_list p) is in
+    let d : Entry = record { key = key; value = value } in
+    let same : e ≡ d = λ i. record { key = sym key_is i; value = sym value_is i } in
+    let m = added_parts front front seen key value before rest count shared refl seen_is counted last shared_is rest_is in
+    (AreEntries-front front (e ∷ []) (subst AreEntries list are), ap (λ es. length (entries_text es)) (list ∙ ap (λ x. front ++ x ∷ []) same) ∙ m.0, m.1)

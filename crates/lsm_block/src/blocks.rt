@@ -73,8 +73,9 @@ impl Block {
     /// The first entry whose user key is at or past this one. Of several rows of that user key it is the one with
     /// the greatest sequence. It takes no memory, and looks at about log2 of the number of entries.
     pub fn seek_user(&self, key: &[u8]) -> Option<(&[u8], &[u8])>
-        ensures { MatchOption result (first_of_user key.now self.now ≡ None)
+        ensures found { MatchOption result (first_of_user key.now self.now ≡ None)
             (λ found. first_of_user key.now self.now ≡ Some (record { key = found.0.now; value = found.1.now })) }
+        ensures block { IsBlock self.now }
     {
         let entry = self.entries.get(user_place_from(&self.entries, key))?;
         Some((entry.key.as_slice(), entry.value.as_slice()))

@@ -1,5 +1,5 @@
 //! Building a block, entry by entry.
-ghost use Rattle.std.specs.Prelude.{◌≡◌, ◌<◌, ◌^◌, ◌↔◌, ◌∷◌, ◌++◌, [], length, IsTrue, IfOk, OnOk, OnErr};
+ghost use Rattle.std.specs.Prelude.{◌≡◌, ◌-◌, ◌<◌, ◌≤◌, ◌^◌, ◌↔◌, ◌∷◌, ◌++◌, [], length, take, IsTrue, IfOk, OnOk, OnErr};
 ghost use Rattle.lsm_block.specs.BlockText.{entries_text, block_text};
 ghost use Rattle.lsm_block.specs.Blocks.{IsKey, AreEntries};
 ghost use Rattle.lsm_block.specs.Parts.{IsPast, last_key};
@@ -84,6 +84,17 @@ impl BlockBuilder {
         ensures { result ≡ length (block_text self.now) }
     {
         self.size + restarts_len(self.entries.len())
+    }
+
+    /// Takes the last entry back.
+    pub fn take_back(&mut self)
+        requires { 1 ≤ length self.old }
+        ensures { self.new ≡ take (length self.old - 1) self.old }
+    {
+        let entry = self.entries.pop().unwrap();
+        let key = entry.key.as_slice();
+        let shared = shared_with(self.entries.len(), key_before(&self.entries), key);
+        self.size -= parts_len(shared, key.split_at(shared).1, entry.value.as_slice());
     }
 
     /// The block's contents.

@@ -1,0 +1,4 @@
+pub mod BehindRows
+pub mod BuiltRows
+pub mod Cutting
+pub mod Searches
