@@ -14,12 +14,12 @@ use std::alloc::Global;
 use std::marker::Model;
 
 // The last bytes of a table.
-const MAGIC: &[u8; 8] = b"lsmtabl1";
+pub(crate) const MAGIC: &[u8; 8] = b"lsmtabl1";
 
 // How many bytes the properties and the footer have.
-const PROPERTIES: usize = 41;
+pub(crate) const PROPERTIES: usize = 41;
 
-const FOOTER: usize = 36;
+pub(crate) const FOOTER: usize = 36;
 
 /// A table whose rows come in one by one. Contracts see what it keeps.
 #[derive(Drop)]

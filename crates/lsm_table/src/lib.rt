@@ -3,12 +3,20 @@
 
 mod building;
 mod data_blocks;
+mod faults;
+mod index;
 mod laws;
+mod opening;
+mod parts;
 mod searching;
 mod storing;
+mod table;
 #[cfg(test)]
 mod tests;
 
 pub use building::{Finished, TableBuilder};
+pub use faults::{TableError, TableFault};
 pub use laws::a_row_with_a_later_key_may_be_added;
+pub use parts::Properties;
 pub use searching::row_of;
+pub use table::Table;
