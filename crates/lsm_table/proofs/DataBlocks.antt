@@ -1,5 +1,5 @@
 -- A data block where an index tells it.
-use Rattle.std.proofs.Common.{◌≡◌, ℕ, List, Ok, inl, inr, refl, sym, subst}
+use Rattle.std.proofs.Common.{◌≡◌, ℕ, List, Ok, inl, inr, refl, subst}
 use Rattle.lsm_disk.specs.Viewed.{Viewed}
 use Rattle.lsm_frame.specs.Reader.{Stays}
 use Rattle.lsm_block.specs.declared.entries.Entry.{Entry}

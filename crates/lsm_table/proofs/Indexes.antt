@@ -1,5 +1,5 @@
 -- The two varints of an index's entry.
-use Rattle.std.proofs.Common.{◌≡◌, ◌≢◌, ℕ, ◌+◌, ◌^◌, ◌<◌, ◌≤◌, All, List, [], ◌∷◌, ◌++◌, length, take, drop, refl, sym, ap, subst, ◌∙◌, arith, append_assoc, append-nil, Option, Some, None, IfSome, is_some, Bool, true, false, cond}
+use Rattle.std.proofs.Common.{◌≡◌, ◌≢◌, ℕ, ◌+◌, All, List, [], ◌∷◌, ◌++◌, length, refl, sym, ap, subst, ◌∙◌, arith, append-nil, Option, Some, None, IfSome, is_some, Bool, true, false, cond}
 use Rattle.std.specs.Prelude.{not}
 use Rattle.std.specs.List.{find}
 use Rattle.std.specs.Ordering.{is_lt}

@@ -5,3 +5,4 @@ pub mod DataBlocks
 pub mod Indexes
 pub mod Openings
 pub mod Searches
+pub mod StoredReads

@@ -1,5 +1,5 @@
 -- What the parts of a table tell of its text.
-use Rattle.std.proofs.Common.{◌≡◌, ◌≢◌, inl, inr, ◌⊎◌, ℕ, ◌+◌, ◌-◌, ◌<◌, ◌≤◌, List, length, take, drop, Result, Ok, Err, IfOk, IfErr, refl, ap, sym, subst, All, ◌∙◌, arith}
+use Rattle.std.proofs.Common.{◌≡◌, ◌≢◌, inl, inr, ℕ, ◌-◌, ◌<◌, ◌≤◌, List, length, take, drop, Result, Ok, Err, IfOk, IfErr, refl, ap, sym, subst, All, ◌∙◌, arith}
 use Rattle.std.specs.Result.{IsErrAnd}
 use Rattle.std.proofs.lemmas.Bool.Decides.{nat_tests}
 use Rattle.std.proofs.lemmas.List.{length-drop, take_all}
@@ -13,7 +13,7 @@ use Rattle.lsm_table.specs.declared.faults.TableFault.{TableFault}
 use Rattle.lsm_table.specs.declared.faults.TableFault.TheVariants.{ReadFault, Damaged, Malformed, NoMemory}
 use Rattle.lsm_table.specs.declared.parts.Places.{Places}
 use Rattle.lsm_table.specs.declared.parts.Properties.{Properties}
-use Rattle.lsm_table.specs.Opening.{part_at, footer_in, footer_of, contents_at, told_by, properties_at, TellsBlock, IsIndex, IsFaultOf, IsIndexFault, IsPropertiesFault, IsRefused, IsOutside, Opens}
+use Rattle.lsm_table.specs.Opening.{part_at, footer_in, footer_of, contents_at, told_by, properties_at, TellsBlock, IsIndex, IsFaultOf, IsIndexFault, IsRefused, IsOutside, Opens}
 use Rattle.lsm_table.specs.Tables.{Shows, AreParts}
 
 -- an exit that hands a fault on

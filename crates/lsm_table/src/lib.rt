@@ -16,7 +16,7 @@ mod tests;
 
 pub use building::{Finished, TableBuilder};
 pub use faults::{TableError, TableFault};
-pub use laws::a_row_with_a_later_key_may_be_added;
+pub use laws::{a_footer_is_read, a_row_with_a_later_key_may_be_added, stored_contents_are_read};
 pub use parts::Properties;
 pub use searching::row_of;
 pub use table::Table;

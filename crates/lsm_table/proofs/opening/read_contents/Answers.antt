@@ -1,4 +1,4 @@
-use Rattle.std.proofs.Common.{ℕ, List, ◌≡◌, ap, sym, ◌∙◌, arith}
+use Rattle.std.proofs.Common.{ℕ, List, ap, sym, ◌∙◌}
 use Rattle.lsm_frame.specs.Reader.{Tells}
 use Rattle.lsm_table.specs.Opening.{contents_at, contents_in, IsFaultOf}
 use Rattle.lsm_table.proofs.Openings.{by_fault, outside_fault, fault_told, outside_error}

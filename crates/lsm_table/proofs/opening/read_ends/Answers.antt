@@ -1,6 +1,5 @@
 use Rattle.std.proofs.Common.{ℕ, List}
 use Rattle.lsm_frame.specs.Reader.{Tells}
-use Rattle.lsm_frame.proofs.Going.{stays_trans}
 use Rattle.lsm_table.specs.Opening.{IsRefused}
 use Rattle.lsm_table.proofs.Openings.{by_fault, tells_on, index_refused, properties_refused}
 use Rattle.lsm_table.proofs.opening.read_ends.Goals as goal

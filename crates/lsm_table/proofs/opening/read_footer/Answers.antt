@@ -1,4 +1,4 @@
-use Rattle.std.proofs.Common.{ℕ, ◌-◌, List, ◌≡◌, ap, sym, ◌∙◌, arith}
+use Rattle.std.proofs.Common.{ℕ, ◌-◌, List, ap, sym, ◌∙◌, arith}
 use Rattle.lsm_frame.specs.Reader.{Tells}
 use Rattle.lsm_table.specs.Opening.{footer_of, IsFaultOf}
 use Rattle.lsm_table.proofs.Openings.{by_fault, outside_fault, ok_all, err_all, no_cause, footer_short, footer_read}

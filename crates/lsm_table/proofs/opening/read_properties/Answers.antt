@@ -1,4 +1,4 @@
-use Rattle.std.proofs.Common.{ℕ, List, ◌≡◌, ap, sym, ◌∙◌}
+use Rattle.std.proofs.Common.{ℕ, List, ap, sym, ◌∙◌}
 use Rattle.lsm_frame.specs.Reader.{Tells}
 use Rattle.lsm_table.specs.Opening.{properties_in, properties_at, IsFaultOf}
 use Rattle.lsm_table.proofs.Openings.{by_fault, err_all, no_cause, told_ok, told_fault}
