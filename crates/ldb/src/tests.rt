@@ -46,7 +46,7 @@ fn prints<R: Abort + AllocGlobal + Threads + Sync>(
     Ok(())
 }
 
-const SCRIPTS: [(&str, &str, u8); 28] = [
+const SCRIPTS: [(&str, &str, u8); 32] = [
     ("", "", 0),
     ("m put a 1\nm get a\n", "seq 1\nvalue 1\n", 0),
     ("m put a 1", "seq 1\n", 0),
@@ -58,10 +58,18 @@ const SCRIPTS: [(&str, &str, u8); 28] = [
     ("m put a 1\nm  get a\nm get a\n", "seq 1\nbad line 2\n", 2),
     ("m put a\n", "bad line 1\n", 2),
     (
-        "m put x: x:\nm get x:\nm get zz\n",
-        "seq 1\nvalue x:\nnone\n",
+        "m put x: x:\nm get x:\nm get zz\nm scan\nm state\n",
+        "seq 1\nvalue x:\nnone\nx: x:\nend 1\nseq 1 keys 1\n",
         0,
     ),
+    ("m scan\nm state\n", "end 0\nseq 0 keys 0\n", 0),
+    (
+        "m put b 2\nm put a x:20\nm batch put x: 0 put a 1\nm scan\nm del a\nm state\n",
+        "seq 1\nseq 2\nseq 4\nx: 0\na 1\nb 2\nend 3\nseq 5\nseq 5 keys 2\n",
+        0,
+    ),
+    ("m scan a\n", "bad line 1\n", 2),
+    ("m state now\n", "bad line 1\n", 2),
     (
         "# a remark\n\nm put x:00ff x:783a41\nm get x:00ff\n",
         "seq 1\nvalue x:783a41\n",
@@ -166,13 +174,15 @@ fn a_65th_actor_is_a_bad_line(rt: HostRuntime) -> Result<(), Fail> {
 
 #[test]
 fn a_fault_ends_the_run(rt: HostRuntime) -> Result<(), Fail> {
-    // What the source, the sink and the disk are to fail; what is printed, and the status.
+    // What the source and the sink are to fail, and which call of the disk, if any; what is printed, and the status.
     for (reads, writes, fails, printed, status) in [
-        (0, 0, false, "seq 1\nvalue 1\n", 0),
-        (11, 0, false, "seq 1\nread fault\n", 3),
-        (5, 0, false, "read fault\n", 3),
-        (0, 1, false, "seq", 4),
-        (0, 0, true, "fault store\n", 5),
+        (0, 0, 0, "seq 1\nvalue 1\n", 0),
+        (11, 0, 0, "seq 1\nread fault\n", 3),
+        (5, 0, 0, "read fault\n", 3),
+        (0, 1, 0, "seq", 4),
+        // The rename to `CURRENT`, and the first append to the log.
+        (0, 0, 10, "fault store\n", 5),
+        (0, 0, 14, "fault store\n", 5),
     ] {
         let mut source = MemSource::new(
             Vec::from_slice(rt.alloc(), b"m put a 1\nm get a\n")?,
@@ -180,13 +190,39 @@ fn a_fault_ends_the_run(rt: HostRuntime) -> Result<(), Fail> {
         );
         let mut sink = MemSink::new(rt.alloc(), vec![in rt.alloc(); (writes, 3)]?);
         let mut disk = MemDisk::new(rt.alloc(), true)?;
-        if fails {
-            // The first append, behind a look, a folder, a file and a sync of the names.
-            disk.fail_at(5, Effect::Nothing)?;
+        if fails > 0 {
+            disk.fail_at(fails, Effect::Nothing)?;
         }
         let (given, _) = run(&rt, &mut source, &mut sink, disk)?;
         assert_eq!(rt; sink.bytes(), printed.as_bytes());
         assert_eq!(rt; given, status);
+    }
+    Ok(())
+}
+
+#[test]
+fn an_empty_script_leaves_a_new_store(rt: HostRuntime) -> Result<(), Fail> {
+    let mut source = MemSource::new(Vec::new(rt.alloc()), Vec::new(rt.alloc()));
+    let mut sink = MemSink::new(rt.alloc(), Vec::new(rt.alloc()));
+    let (status, mut disk) = run(&rt, &mut source, &mut sink, MemDisk::new(rt.alloc(), true)?)?;
+    assert_eq!(rt; status, 0);
+    assert!(rt; sink.bytes().is_empty());
+    for (name, bytes) in [
+        ("db/CURRENT", b"MANIFEST-000001\n".as_slice()),
+        (
+            "db/MANIFEST-000001",
+            b"\xdb\x45\xa1\x15\x06\0\x01\x01\x02\x02\x03\x03\0".as_slice(),
+        ),
+        ("db/000002.log", b"".as_slice()),
+    ] {
+        let path = Path::parse(name.as_bytes())?;
+        let len = bytes.len();
+        assert_eq!(rt; disk.size(&path), Ok(len as u64));
+        let mut view = disk.open(&path, len as u64).expect(&rt, "a view");
+        let mut found = vec![in rt.alloc(); 0u8; len]?;
+        assert_eq!(rt; view.read_at(0, found.as_mut_slice()), Ok(()));
+        assert_eq!(rt; found.as_slice(), bytes);
+        disk.close(view);
     }
     Ok(())
 }

@@ -1,15 +1,18 @@
 -- The entries of a sorted map as contents.
-use Rattle.std.specs.Prelude.{◌≡◌, ℕ, Bool, true, false, cond, List, [], ◌∷◌, map, Option, Some, None, Vec}
-use Rattle.std.proofs.Common.{refl, sym, ap, ◌∙◌}
+use Rattle.std.specs.Prelude.{◌≡◌, ℕ, Bool, true, false, cond, ◌&&◌, T, List, [], ◌∷◌, map, Option, Some, None, Vec}
+use Rattle.std.proofs.Common.{refl, sym, ap, subst, ◌∙◌}
 use Rattle.std.specs.Option.{option_map}
-use Rattle.std.specs.Ordering.{is_eq, eq_by_cmp, match_ordering}
+use Rattle.std.specs.Ordering.{is_eq, is_lt, eq_by_cmp, match_ordering}
+use Rattle.std.specs.declared.cmp.Ordering.{Ordering}
 use Rattle.std.specs.declared.cmp.Ordering.TheVariants.{Less, Equal, Greater}
 use Rattle.std.specs.Cmp.Lexicographic.{nat_list_cmp_total}
-use Rattle.std.specs.Map.{lookup, KeepsOthers}
+use Rattle.std.specs.List.{AllByRecursion}
+use Rattle.std.specs.List.Sorted.{IsStrictlySortedBy}
+use Rattle.std.specs.Map.{lookup, keys_of, KeepsOthers}
 use Rattle.std.specs.BTreeMap.{insert_entry}
 use Rattle.std.specs.FinMap as finite
-use Rattle.std.specs.FinMap.Entries.{by_order, find-put}
-use Rattle.lsm_rows.specs.Replay.{key_cmp}
+use Rattle.std.specs.FinMap.Entries.{by_order, below_all, is_sorted, find-put}
+use Rattle.lsm_rows.specs.Replay.{Contents, key_cmp}
 use Rattle.lsm_rows.proofs.NewestRows.{same_key}
 use Rattle.ldb_script.specs.Contents.{pair_of, contents_of}
 
@@ -68,3 +71,28 @@ module _ {Z : Type 0} where
 
     pub contents_removed : contents_of new ≡ finite.remove (contents_of es) key
     contents_removed = finite.same_map nat_list_cmp_total (finite.slice_cmp-IsAntisymmetric finite.nat_cmp-IsAntisymmetric) _ _ left_at
+
+-- ---- the entries in their order
+
+both : (a b : Bool) → T a → T b → T (a && b)
+both true b p q = q
+both false b p q = p
+
+module _ {Z : Type 0} where
+  sorted_from : (x : List ℕ) (es : List (Vec ℕ Z × Vec ℕ Z)) → AllByRecursion (λ (y : Vec ℕ Z). key_cmp x y.items ≡ Less) (keys_of es) → T (below_all key_cmp x (map pair_of es))
+  sorted_from x [] below = tt
+  sorted_from x (e ∷ es) below = both (is_lt (key_cmp x e.0.items)) (below_all key_cmp x (map pair_of es)) (subst (λ (r : Ordering). T (is_lt r)) (sym below.0) tt) (sorted_from x es below.1)
+
+  pairs_sorted : (es : List (Vec ℕ Z × Vec ℕ Z)) → IsStrictlySortedBy (λ (x y : Vec ℕ Z). key_cmp x.items y.items) (keys_of es) → T (is_sorted key_cmp (map pair_of es))
+  unfolding IsStrictlySortedBy
+  pairs_sorted [] sorted = tt
+  pairs_sorted (e ∷ es) sorted = both (below_all key_cmp e.0.items (map pair_of es)) (is_sorted key_cmp (map pair_of es)) (sorted_from e.0.items es sorted.0) (pairs_sorted es sorted.1)
+
+  -- a map of std keeps its entries as the contents have them
+  pub entries_contents : (es : List (Vec ℕ Z × Vec ℕ Z)) → IsStrictlySortedBy (λ (x y : Vec ℕ Z). key_cmp x.items y.items) (keys_of es) → finite.entries (contents_of es) ≡ map pair_of es
+  entries_contents es ordered =
+      let sorted : T (is_sorted key_cmp (map pair_of es)) = pairs_sorted es ordered in
+      ap (λ (m : Contents). finite.entries m)
+      (finite.same_map nat_list_cmp_total (finite.slice_cmp-IsAntisymmetric finite.nat_cmp-IsAntisymmetric) (contents_of es) (finite.from_sorted (map pair_of es)) (λ q.
+      finite.get-from_entries nat_list_cmp_total (map pair_of es) q ∙ sym (finite.get-from_sorted key_cmp (map pair_of es) q sorted)))
+      ∙ finite.entries-from_sorted key_cmp (map pair_of es) sorted

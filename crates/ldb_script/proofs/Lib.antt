@@ -4,7 +4,11 @@ pub mod Broken
 pub mod Closing
 pub mod Entries
 pub mod NamedOperations
+pub mod Telling
+pub mod Folders
+pub mod Calls
 pub mod Opened
+pub mod Besides
 pub mod Logs
 pub mod Serving
 pub mod Sizes

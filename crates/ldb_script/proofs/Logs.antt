@@ -10,8 +10,10 @@ use Rattle.lsm_frame.specs.Frames.{record_text}
 use Rattle.lsm_disk.specs.State.{State, Story, after as later, state_of, bytes_of, sure, file_synced}
 use Rattle.lsm_disk.specs.Images.{Tree, IsImage, tree_now, bytes_at}
 use Rattle.lsm_disk.specs.Answers.{Makes, pushed}
+use Rattle.lsm_disk.specs.Goes.{GoesOn}
+use Rattle.lsm_disk.specs.Kept.{InFile}
 use Rattle.lsm_disk.proofs.Cuts.{cut_front}
-use Rattle.lsm_disk.proofs.Kept.{kept_synced, kept_image}
+use Rattle.lsm_disk.proofs.Kept.{kept_synced, kept_image, kept_at}
 use Rattle.lsm_disk.proofs.Images.{reads_image}
 use Rattle.lsm_disk.proofs.Runs.{state_push}
 use Rattle.lsm_wal.specs.Batches.{Logged, text_of, wal_text, in_sequence}
@@ -19,8 +21,9 @@ use Rattle.lsm_wal.specs.Standing.{IsWal, IsLeft}
 use Rattle.lsm_wal.proofs.Texts.{text_push}
 use Prim.Native.Nat.{suc}
 use Rattle.ldb_script.specs.Plain.{Outcome, written, with_batch, both}
-use Rattle.ldb_script.specs.Stored.{Shown, Stands, Logs, Keeps, log_of}
+use Rattle.ldb_script.specs.Stored.{Shown, Stands, Logs, FilesBeside, Keeps, log_of}
 use Rattle.ldb_script.specs.Opening.{made_durable}
+use Rattle.ldb_script.proofs.Besides.{files_go, files_synced}
 
 pub sequence_push : (start : ℕ) (batches : List (List Op)) (batch : List Op) → sequence_after start (batches ++ batch ∷ []) ≡ sequence_after start batches + length batch
 sequence_push start [] batch = refl
@@ -81,16 +84,26 @@ module _ (start : Option Story) (old new : Shown) (outcome : Outcome) (was : Sta
             (subst (λ (b : Logged). IsWal (state_of left.0) old.log (in_sequence 1 outcome.accepted ++ b ∷ []) (if sync then length (in_sequence 1 outcome.accepted ++ b ∷ []) else outcome.after.durable)) behind_is left.2)));
       }
 
+  -- the files beside it
+  pub beside_written : (wal : (logs : Logs old.disk.told old.log outcome.accepted outcome.after.durable) → (later : Story) × (new.disk.told ≡ Some later) × (P : State → Tree → Type 0) × GoesOn logs.story later (InFile logs.wal.id) P)
+      → new.log ≡ old.log → (story : Story) → start ≡ Some story → FilesBeside new.disk.told new.log
+  beside_written wal same story tells =
+      let logs = was.log story tells in
+      let went = wal logs in
+      subst (FilesBeside new.disk.told) (sym same)
+      (files_go old.disk.told new.disk.told old.log logs.story went.0 went.2 logs.wal.id logs.tells went.1 (kept_at (state_of logs.story) old.log logs.wal.id logs.wal.file logs.wal.kept) went.3 (was.beside story tells))
+
   -- the store stands behind the batch that it wrote
-  pub stands_written : (log : (story : Story) → start ≡ Some story → Logs new.disk.told new.log after.accepted after.after.durable) → new.contents ≡ fold applied old.contents batch → new.sequence ≡ old.sequence + length batch
+  pub stands_written : (log : (story : Story) → start ≡ Some story → Logs new.disk.told new.log after.accepted after.after.durable) → (beside : (story : Story) → start ≡ Some story → FilesBeside new.disk.told new.log) → new.contents ≡ fold applied old.contents batch → new.sequence ≡ old.sequence + length batch
       → new.len ≡ old.len + length (record_text (old.len % 32768) (batch_text (old.sequence + 1) batch)) → Stands start new after
-  stands_written log contents sequence len = record {
+  stands_written log beside contents sequence len = record {
     contents = contents ∙ ap (λ (m : Contents). fold applied m batch) was.contents;
     sequence = sequence ∙ ap (λ (n : ℕ). n + length batch) was.sequence;
     counted = ap (λ (n : ℕ). n + length batch) was.counted ∙ sym (sequence_push 0 outcome.accepted batch);
     batches = ap (λ (n : ℕ). n + 1) was.batches ∙ sym (length-append outcome.accepted (batch ∷ []));
     len = len ∙ (λ i. was.len i + length (record_text (was.len i % 32768) (text_of (behind_is i)))) ∙ sym (log_push outcome.accepted batch);
     log = log;
+    beside = beside;
   }
 
 -- ---- a sync
@@ -136,14 +149,21 @@ module _ (start : Option Story) (old new : Shown) (outcome : Outcome) (was : Sta
             (wal_synced (state_of logs.story) old.log (in_sequence 1 outcome.accepted) outcome.after.durable logs.wal)));
       }
 
-  pub stands_synced : ((story : Story) → start ≡ Some story → Logs new.disk.told new.log outcome.accepted outcome.after.batches) → new.contents ≡ old.contents → new.sequence ≡ old.sequence → new.len ≡ old.len → Stands start new (made_durable outcome)
-  stands_synced log contents sequence len = record {
+  -- the files beside it
+  pub beside_synced : Makes old.disk.told (file_synced old.log) new.disk.told → new.log ≡ old.log → (story : Story) → start ≡ Some story → FilesBeside new.disk.told new.log
+  beside_synced makes same story tells =
+      let logs = was.log story tells in
+      subst (FilesBeside new.disk.told) (sym same) (files_synced old.disk.told new.disk.told old.log logs.story logs.wal.id logs.wal.file logs.tells logs.wal.kept makes (was.beside story tells))
+
+  pub stands_synced : ((story : Story) → start ≡ Some story → Logs new.disk.told new.log outcome.accepted outcome.after.batches) → ((story : Story) → start ≡ Some story → FilesBeside new.disk.told new.log) → new.contents ≡ old.contents → new.sequence ≡ old.sequence → new.len ≡ old.len → Stands start new (made_durable outcome)
+  stands_synced log beside contents sequence len = record {
     contents = contents ∙ was.contents;
     sequence = sequence ∙ was.sequence;
     counted = was.counted;
     batches = was.batches;
     len = len ∙ was.len;
     log = log;
+    beside = beside;
   }
 
 -- a log whose batches are durable keeps its text

@@ -9,16 +9,17 @@ use Rattle.lsm_disk.specs.State.{Seen, Story}
 use Rattle.ldb_script.specs.Input.{IsInside}
 use Rattle.ldb_script.specs.Plain.{Outcome, told, empty, both}
 use Rattle.ldb_script.specs.Printed.{with_newline, bad_line}
-use Rattle.ldb_script.specs.Stored.{Shown, Stands, Logs, log_path}
+use Rattle.ldb_script.specs.Stored.{Shown, Stands, Logs, KeepsManifestAndCurrent, log_path}
 use Rattle.ldb_script.specs.Opening.{SeenStay, IsFree, IsOpened, IsUnopened, made_durable}
 use Rattle.ldb_script.specs.Run.{Stream, Met, now, Reached, Says, Finished, StoppedAt, ReadFailed, WriteFailed, IsFound, IsTaken, RefusedBy, CountsStay, is_faultless, IsRun}
 use Rattle.ldb_script.specs.Doing.{Underway, Ran, Closed, Spoke, EndsWith, BehindIs, unopened_end}
 use Rattle.ldb_script.specs.declared.ending.Ended.{Ended}
 use Rattle.ldb_script.specs.declared.ending.Ended.TheVariants as ended
-use Rattle.ldb_script.specs.declared.store.OpenError.{OpenError}
-use Rattle.ldb_script.specs.declared.store.OpenError.TheVariants as open_errors
+use Rattle.ldb_script.specs.declared.opening.OpenError.{OpenError}
+use Rattle.ldb_script.specs.declared.opening.OpenError.TheVariants as open_errors
 use Rattle.ldb_script.proofs.Opened.{rose_later}
 use Rattle.ldb_script.proofs.Logs.{keeps}
+use Rattle.ldb_script.proofs.Besides.{files_kept}
 use Rattle.ldb_script.proofs.Turning.{joined_none, output_none, reached, fails, ends_behind}
 
 -- before the first line
@@ -205,6 +206,9 @@ module _ (folder : List ℕ) (before : Seen) (opened shown : Shown) (source sour
   logged : (outcome : Outcome) → Stands before.told shown outcome → (story : Story) → before.told ≡ Some story → Logs shown.disk.told (log_path folder) outcome.accepted outcome.after.durable
   logged outcome stands story tells = subst (λ (p : List ℕ). Logs shown.disk.told p outcome.accepted outcome.after.durable) (log ∙ is_opened.log) (stands.log story tells)
 
+  kept_files : (outcome : Outcome) → Stands before.told shown outcome → (story : Story) → before.told ≡ Some story → KeepsManifestAndCurrent shown.disk.told folder
+  kept_files outcome stands story tells = files_kept shown.disk.told folder shown.log (log ∙ is_opened.log) (stands.beside story tells)
+
   pub ends : (e : Ended) → Closed before.told ran shown e → EndsWith folder sink' last e status → IsRun folder m status
   ends ended.Finished h w = as_finished folder m status all_counts w.0 free (record {
     bytes = h.bytes;
@@ -217,6 +221,7 @@ module _ (folder : List ℕ) (before : Seen) (opened shown : Shown) (source sour
     log = λ story tells.
         keeps shown.disk.told (log_path folder) h.outcome.accepted h.outcome.after.batches h.stands.batches
         (logged (made_durable h.outcome) h.stands story tells);
+    files = kept_files (made_durable h.outcome) h.stands;
   })
   ends (ended.BadLine number) h (inl (is, spoke)) = as_bad folder m status all_counts is free (record {
     done = h.done;
@@ -226,6 +231,7 @@ module _ (folder : List ℕ) (before : Seen) (opened shown : Shown) (source sour
     bad = h.bad;
     says = says last m sink' h.outcome.text (bad_line (length h.done + 1)) refl counted.sink h.written (subst (λ (n : ℕ). Spoke sink' last (bad_line n)) h.is_number spoke);
     log = logged h.outcome h.stands;
+    files = kept_files h.outcome h.stands;
   })
   ends (ended.BadLine number) h (inr none) = as_no_memory folder m status all_counts none
   ends ended.ReadFault h w = as_read folder m status all_counts w.0 free (record {
@@ -237,6 +243,7 @@ module _ (folder : List ℕ) (before : Seen) (opened shown : Shown) (source sour
     inside = h.inside;
     says = says last m sink' h.outcome.text (with_newline (codes "read fault")) refl counted.sink h.written w.1;
     log = logged h.outcome h.stands;
+    files = kept_files h.outcome h.stands;
   })
   ends ended.WriteFault h w = as_write folder m status all_counts w.0 free (record {
     rose = omega (arith, h.rose, later);
@@ -253,6 +260,7 @@ module _ (folder : List ℕ) (before : Seen) (opened shown : Shown) (source sour
     parts = h.parts;
     took = subst (λ (s : Stream). Appends sink.bytes s.bytes (h.outcome.text ++ h.front)) (sym w.1) h.took;
     log = logged (both h.outcome h.next) h.stands;
+    files = kept_files (both h.outcome h.next) h.stands;
   })
   ends ended.DiskFault h is = as_disk folder m status all_counts is (rose_later before.faults opened.disk.faults shown.disk.faults opening.faults h)
   ends (ended.Changed call path) h (inl is) = as_refused folder m status all_counts is (record {
@@ -285,8 +293,8 @@ module _ (folder : List ℕ) (before after : Seen) (source sink last : Stream) (
       })
   refuses open_errors.Found h (inr none) = as_no_memory folder met_refusal status few_counts none
   refuses (open_errors.Changed call path) h (inl is) = as_refused folder met_refusal status few_counts is (record {
-    cause = inr h.0;
-    told = λ story tells. absurd (none_of before.told story h.1 tells);
+    cause = inr h.1;
+    told = λ story tells. absurd (none_of before.told story h.2 tells);
   })
   refuses (open_errors.Changed call path) h (inr none) = as_no_memory folder met_refusal status few_counts none
   refuses open_errors.NoMemory h is = as_no_memory folder met_refusal status few_counts is

@@ -7,7 +7,7 @@ use Rattle.lsm_disk.specs.State.{Story}
 use Rattle.lsm_rows.specs.declared.operations.Op.{Op}
 use Rattle.lsm_rows.specs.Limits.{Refused}
 use Rattle.lsm_rows.specs.Replay.{Contents, sequence_after}
-use Rattle.ldb_script.specs.Printed.{sequence_line, value_line, ok_line, too_large_line}
+use Rattle.ldb_script.specs.Printed.{sequence_line, value_line, scan_text, state_line, ok_line, too_large_line}
 use Rattle.std.specs.Io.KnownBytes.{Appends}
 use Rattle.std.proofs.KnownBytes.{Appends-nil}
 use Rattle.ldb_script.specs.Plain.{Outcome, Plain, Answers, told, both, written, all_durable, first_refusal, named, with_actor, line_at}
@@ -17,7 +17,7 @@ use Rattle.ldb_script.specs.Stored.{Shown, Stands, Logs, log_of}
 use Rattle.ldb_script.specs.Opening.{Writes, Syncs, IsBroken, made_durable}
 use Rattle.ldb_script.specs.Doing.{AnsweredOr, MadeOr, broken_end, Breaks, ServedOr, IsDone, DoneOr}
 use Rattle.ldb_script.specs.declared.line.Command.{Command}
-use Rattle.ldb_script.specs.declared.line.Command.TheVariants.{Write, Sync, Get}
+use Rattle.ldb_script.specs.declared.line.Command.TheVariants.{Write, Sync, Get, Scan, State}
 use Rattle.ldb_script.specs.declared.ending.Ended.{Ended}
 use Rattle.ldb_script.specs.declared.ending.Ended.TheVariants as ended
 use Rattle.ldb_script.specs.declared.store.StoreError.{StoreError}
@@ -34,6 +34,7 @@ stands_told start shown outcome text was =
       batches = was.batches ∙ ap (λ (a : List (List Op)). length a) (sym none);
       len = was.len ∙ ap (λ (a : List (List Op)). length (log_of a)) (sym none);
       log = λ story tells. subst (λ (a : List (List Op)). Logs shown.disk.told shown.log a outcome.after.durable) (sym none) (was.log story tells);
+      beside = was.beside;
     }
 
 module _ (start : Option Story) (old new : Shown) (outcome : Outcome) (was : Stands start old outcome) where
@@ -80,6 +81,23 @@ module _ (start : Option Story) (old new : Shown) (outcome : Outcome) (was : Sta
       (subst (λ (s : Shown). Stands start s (both outcome (told outcome.after text))) (sym same) (stands_told start old outcome text was))
       made (made_or made text (λ t ok. is t ok ∙ e)) h
 
+  -- an answer that leaves all as it is
+  told_answers : (command : Command) (text : List ℕ) (made : Result (List ℕ) Lacking) (result : Result (List ℕ) Ended) → new ≡ old → Answers outcome.after command (told outcome.after text)
+      → ((t : List ℕ) → made ≡ Ok t → t ≡ text) → MadeOr made result → AnsweredOr start old new outcome command result
+  told_answers command text made result same answers is h =
+      made_by command text (told outcome.after text) result answers refl
+      (subst (λ (s : Shown). Stands start s (both outcome (told outcome.after text))) (sym same) (stands_told start old outcome text was)) made (made_or made text is) h
+
+  pub scan_answers : (made : Result (List ℕ) Lacking) (result : Result (List ℕ) Ended) → new ≡ old → ((t : List ℕ) → made ≡ Ok t → t ≡ scan_text (finite.entries old.contents)) → MadeOr made result → AnsweredOr start old new outcome Scan result
+  scan_answers made result same is h =
+      told_answers Scan (scan_text (finite.entries outcome.after.contents)) made result same refl (λ t ok. is t ok ∙ ap (λ (m : Contents). scan_text (finite.entries m)) was.contents) h
+
+  pub state_answers : (made : Result (List ℕ) Lacking) (result : Result (List ℕ) Ended) → new ≡ old → ((t : List ℕ) → made ≡ Ok t → t ≡ state_line old.sequence (length (finite.entries old.contents))) → MadeOr made result
+      → AnsweredOr start old new outcome State result
+  state_answers made result same is h =
+      told_answers State (state_line outcome.after.sequence (length (finite.entries outcome.after.contents))) made result same refl
+      (λ t ok. is t ok ∙ (λ i. state_line (was.sequence i) (length (finite.entries (was.contents i))))) h
+
 -- ---- printed
 
 module _ (start : Option Story) (before after : Stream) (old new : Shown) (outcome : Outcome) (command : Command) where
@@ -103,13 +121,15 @@ answers_actors : (plain : Plain) (command : Command) (next : Outcome) → Answer
 answers_actors plain (Write durable batch) next is = ap (λ (o : Outcome). o.after.actors) is ∙ written_actors plain durable batch (first_refusal [] batch)
 answers_actors plain Sync next is = ap (λ (o : Outcome). o.after.actors) is
 answers_actors plain (Get key) next is = ap (λ (o : Outcome). o.after.actors) is
+answers_actors plain Scan next is = ap (λ (o : Outcome). o.after.actors) is
+answers_actors plain State next is = ap (λ (o : Outcome). o.after.actors) is
 
 -- the same contents and sequence, where an actor was named
 abbrev pub with_named : Outcome → List ℕ → Outcome
 with_named outcome actor = record { text = outcome.text; accepted = outcome.accepted; after = named outcome.after actor }
 
 pub stands_named : (start : Option Story) (shown : Shown) (outcome : Outcome) (actor : List ℕ) → Stands start shown outcome → Stands start shown (with_named outcome actor)
-stands_named start shown outcome actor was = record { contents = was.contents; sequence = was.sequence; counted = was.counted; batches = was.batches; len = was.len; log = was.log }
+stands_named start shown outcome actor was = record { contents = was.contents; sequence = was.sequence; counted = was.counted; batches = was.batches; len = was.len; log = was.log; beside = was.beside }
 
 module _ (start : Option Story) (before after : Stream) (old new : Shown) (actors : List (List ℕ)) (outcome : Outcome) (line : List ℕ) (number : ℕ) where
   -- a line that does nothing

@@ -16,8 +16,8 @@ use Rattle.ldb_script.specs.declared.store.StoreError.TheVariants as store_error
 use Rattle.lsm_rows.specs.declared.operations.Op.{Op}
 use Rattle.lsm_rows.specs.declared.refusals.BatchRefusal.{BatchRefusal}
 use Rattle.lsm_rows.specs.declared.refusals.BatchRefusal.TheVariants as refusals
-use Rattle.ldb_script.specs.declared.store.OpenError.{OpenError}
-use Rattle.ldb_script.specs.declared.store.OpenError.TheVariants as open_errors
+use Rattle.ldb_script.specs.declared.opening.OpenError.{OpenError}
+use Rattle.ldb_script.specs.declared.opening.OpenError.TheVariants as open_errors
 use Rattle.lsm_bytes.specs.declared.no_memory.NoMemory.{NoMemory as Lacking}
 use Rattle.ldb_script.specs.declared.ending.Ended.{Ended}
 use Rattle.ldb_script.specs.declared.ending.Ended.TheVariants.{Finished, BadLine, ReadFault, WriteFault, DiskFault, Found, Changed, NoMemory}

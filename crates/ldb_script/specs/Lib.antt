@@ -5,6 +5,7 @@ pub mod Contents
 pub mod Printed
 pub mod Plain
 pub mod Stored
+pub mod Filling
 pub mod Opening
 pub mod Run
 pub mod Doing

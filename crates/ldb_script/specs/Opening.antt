@@ -1,16 +1,21 @@
 -- What an opening, a write and a sync leave, by their answers.
-use Rattle.std.specs.Prelude.{◌≡◌, ℕ, ◌+◌, ◌≤◌, ◌<◌, ◌^◌, Bool, List, [], length, Option, Some, None, IsSome, Result, Ok, Err}
+use Rattle.std.specs.Prelude.{◌≡◌, ℕ, ◌+◌, ◌≤◌, ◌<◌, ◌^◌, Bool, List, [], ◌∷◌, ◌++◌, length, Option, Some, None, IsSome, Result, Ok, Err}
 use Rattle.lsm_io.specs.Causes.{Rose}
 use Rattle.lsm_disk.specs.Names.{stands}
-use Rattle.lsm_disk.specs.State.{Seen, Story, state_of, names_now}
+use Rattle.lsm_disk.specs.State.{Seen, State, Story, state_of, names_now}
 use Rattle.lsm_rows.specs.declared.operations.Op.{Op}
+use Rattle.ldb_script.specs.Filling.{HasStore}
 use Rattle.ldb_script.specs.Plain.{Outcome, told, empty, written, all_durable, both}
-use Rattle.ldb_script.specs.Stored.{Shown, Logs, Stands, log_path}
+use Rattle.ldb_script.specs.Stored.{Shown, Stands, log_path, manifest_path, current_path, temporary_path}
+use Rattle.lsm_disk.specs.Halts.{halt_at, IsAmong}
 use Rattle.lsm_disk.specs.declared.calls.DiskCall.{DiskCall}
+use Rattle.lsm_disk.specs.declared.calls.DiskCall.TheVariants as call
+use Rattle.lsm_disk.specs.declared.calls.Halt.{Halt}
+use Rattle.lsm_publish.specs.Publishing.{publish_calls}
 use Rattle.lsm_disk.specs.declared.calls.DiskError.{DiskError}
 use Rattle.lsm_disk.specs.declared.calls.DiskError.TheVariants.{Fault, NotThere, Exists, NoLinks, NotEmpty, Short, NoMemory}
-use Rattle.ldb_script.specs.declared.store.OpenError.{OpenError}
-use Rattle.ldb_script.specs.declared.store.OpenError.TheVariants as open_errors
+use Rattle.ldb_script.specs.declared.opening.OpenError.{OpenError}
+use Rattle.ldb_script.specs.declared.opening.OpenError.TheVariants as open_errors
 use Rattle.ldb_script.specs.declared.store.StoreError.{StoreError}
 use Rattle.ldb_script.specs.declared.store.StoreError.TheVariants as store_errors
 
@@ -27,17 +32,41 @@ IsFree folder seen = (story : Story) → seen.told ≡ Some story → stands (na
 abbrev pub IsFull : List ℕ → Seen → Type 0
 IsFull folder seen = (story : Story) → seen.told ≡ Some story → IsSome (stands (names_now (state_of story)) folder)
 
--- A new store over an empty log: the folder's name was free.
+-- A new store over an empty log, beside a new manifest and `CURRENT`: the folder's name was free.
 pub record IsOpened (folder : List ℕ) (before : Seen) (shown : Shown) : Type 0 where
   pub stands : Stands before.told shown (told empty [])
   pub log : shown.log ≡ log_path folder
   pub free : IsFree folder before
 
+-- ---- which calls an opening makes
+
+-- those that make a file and sync it
+abbrev pub file_calls : List ℕ → List Halt
+file_calls path = halt_at call.Create path ∷ halt_at call.Append path ∷ halt_at call.Sync path ∷ []
+
+-- the folder is made, and the manifest in it
+abbrev pub manifest_calls : List ℕ → List Halt
+manifest_calls folder = halt_at call.MakeFolder folder ∷ file_calls (manifest_path folder)
+
+-- the log is made; a sync of names carries the path of the call before it
+abbrev pub log_calls : List ℕ → List Halt
+log_calls folder = halt_at call.Create (log_path folder) ∷ halt_at call.SyncNames (log_path folder) ∷ []
+
+-- they come in this order: the manifest, the publication of `CURRENT`, the log
+abbrev pub filling_calls : List ℕ → List Halt
+filling_calls folder = manifest_calls folder ++ (publish_calls (temporary_path folder) (current_path folder) ++ log_calls folder)
+
+-- before them comes a look at the folder's name
+abbrev pub opening_calls : List ℕ → List Halt
+opening_calls folder = halt_at call.Kind folder ∷ filling_calls folder
+
+-- ---- what an opening leaves
+
 -- a refused opening: why, and what is then seen of the disk
 abbrev pub IsUnopened : List ℕ → Seen → Seen → OpenError → Type 0
 IsUnopened folder before after open_errors.DiskFault = Rose before.faults after.faults
 IsUnopened folder before after open_errors.Found = IsFull folder before × (after.told ≡ before.told)
-IsUnopened folder before after (open_errors.Changed call path) = Rose before.refusals after.refusals × (before.told ≡ None)
+IsUnopened folder before after (open_errors.Changed call path) = IsAmong (halt_at call path) (opening_calls folder) × Rose before.refusals after.refusals × (before.told ≡ None)
 IsUnopened folder before after open_errors.NoMemory = IsFree folder before
 
 -- where the disk refuses a call of an opened store
@@ -94,7 +123,18 @@ open_error call path NotEmpty = open_errors.Changed call path
 open_error call path (Short found) = open_errors.Changed call path
 open_error call path NoMemory = open_errors.NoMemory
 
--- the folder and the empty log were made, or why not
+-- where the disk told a state with P, it tells one later that R relates to it
+abbrev pub Leads : (State → Type 0) → (State → State → Type 0) → Option Story → Option Story → Type 0
+Leads P R old new = (story : Story) → old ≡ Some story → P (state_of story) → (later : Story) × (new ≡ Some later) × R (state_of story) (state_of later)
+
+-- One of these calls was refused, by a fault, by want of memory, or by a disk that told no state with P.
+abbrev pub IsHindered : List Halt → (State → Type 0) → Seen → Seen → OpenError → Type 0
+IsHindered calls P old new open_errors.DiskFault = Rose old.faults new.faults
+IsHindered calls P old new open_errors.Found = ⊥
+IsHindered calls P old new (open_errors.Changed call path) = IsAmong (halt_at call path) calls × Rose old.refusals new.refusals × ((story : Story) → old.told ≡ Some story → ¬ P (state_of story))
+IsHindered calls P old new open_errors.NoMemory = Unit {0}
+
+-- the folder and its files were made, or why not
 abbrev pub MakesOr : {T : Type 0} → List ℕ → Seen → Seen → Result T OpenError → Type 0
-MakesOr folder before after (Ok log) = (story : Story) → before.told ≡ Some story → Logs after.told (log_path folder) [] 0
+MakesOr folder before after (Ok log) = (story : Story) → before.told ≡ Some story → (later : Story) × (after.told ≡ Some later) × HasStore folder (state_of later)
 MakesOr folder before after (Err why) = IsUnopened folder before after why

@@ -7,11 +7,11 @@ use Rattle.lsm_rows.specs.Replay.{Contents, replayed}
 use Rattle.lsm_rows.specs.Limits.{Refused, refusal_of}
 use Rattle.lsm_rows.specs.declared.operations.Op.{Op}
 use Rattle.ldb_script.specs.Script.{line_of}
-use Rattle.ldb_script.specs.Printed.{sequence_line, value_line, ok_line, too_large_line}
+use Rattle.ldb_script.specs.Printed.{sequence_line, value_line, scan_text, state_line, ok_line, too_large_line}
 use Rattle.ldb_script.specs.declared.line.Line.{Line}
 use Rattle.ldb_script.specs.declared.line.Line.TheVariants.{Blank, Ask}
 use Rattle.ldb_script.specs.declared.line.Command.{Command}
-use Rattle.ldb_script.specs.declared.line.Command.TheVariants.{Write, Sync, Get}
+use Rattle.ldb_script.specs.declared.line.Command.TheVariants.{Write, Sync, Get, Scan, State}
 
 -- the pairs and the last sequence; how many batches were accepted, and how many of them, the first ones, outlive each crash;
 -- and the actors that lines have named, the first first
@@ -94,6 +94,8 @@ abbrev pub Answers : Plain → Command → Outcome → Type 0
 Answers plain (Write durable batch) outcome = outcome ≡ written plain durable batch (first_refusal [] batch)
 Answers plain Sync outcome = outcome ≡ told (all_durable plain) ok_line
 Answers plain (Get key) outcome = outcome ≡ told plain (value_line (map.get plain.contents key))
+Answers plain Scan outcome = outcome ≡ told plain (scan_text (map.entries plain.contents))
+Answers plain State outcome = outcome ≡ told plain (state_line plain.sequence (length (map.entries plain.contents)))
 
 -- the state in which an actor's command is done
 abbrev pub named : Plain → List ℕ → Plain

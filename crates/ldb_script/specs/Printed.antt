@@ -1,6 +1,7 @@
 -- The lines that a script prints.
-use Rattle.std.specs.Prelude.{ℕ, List, [], ◌∷◌, ◌++◌, Option, Some, None, codes}
+use Rattle.std.specs.Prelude.{ℕ, List, [], ◌∷◌, ◌++◌, length, Option, Some, None, codes}
 use Rattle.std.specs.Fmt.{decimal}
+use Rattle.std.specs.List.{flat_map}
 use Rattle.lsm_rows.specs.Limits.{Refused}
 use Rattle.lsm_rows.specs.declared.refusals.What.{What}
 use Rattle.lsm_rows.specs.declared.refusals.What.TheVariants.{Key, Value, Count, Bytes}
@@ -18,6 +19,22 @@ sequence_line last = with_newline (codes "seq " ++ decimal last)
 unfoldable pub value_line : Option (List ℕ) → List ℕ
 value_line None = with_newline (codes "none")
 value_line (Some value) = with_newline (codes "value " ++ shown value)
+
+-- a pair has a line of its own: its key and its value, each as one word
+unfoldable pub pair_line : List ℕ × List ℕ → List ℕ
+pair_line pair = shown pair.0 ++ 32 ∷ with_newline (shown pair.1)
+
+-- how many pairs there were
+unfoldable pub end_line : ℕ → List ℕ
+end_line count = with_newline (codes "end " ++ decimal count)
+
+-- a scan is answered by the line of each pair, and their count
+abbrev pub scan_text : List (List ℕ × List ℕ) → List ℕ
+scan_text pairs = flat_map pair_line pairs ++ end_line (length pairs)
+
+-- the state is answered by the last sequence, and how many keys have a value
+unfoldable pub state_line : ℕ → ℕ → List ℕ
+state_line last keys = codes "seq " ++ (decimal last ++ (codes " keys " ++ with_newline (decimal keys)))
 
 -- a call that has nothing else to say is answered so
 abbrev pub ok_line : List ℕ

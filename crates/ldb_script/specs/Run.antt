@@ -9,7 +9,7 @@ use Rattle.ldb_script.specs.Script.{lines}
 use Rattle.ldb_script.specs.Input.{IsInside}
 use Rattle.ldb_script.specs.Plain.{Outcome, Output, Does, empty, line_at}
 use Rattle.ldb_script.specs.Printed.{with_newline, bad_line}
-use Rattle.ldb_script.specs.Stored.{Keeps, Logs, log_path, log_of}
+use Rattle.ldb_script.specs.Stored.{Keeps, KeepsManifestAndCurrent, Logs, log_path, log_of}
 
 -- a source or a sink: the bytes that are left or were taken, where it tells them, and its count of faults
 pub record Stream : Type 0 where
@@ -69,7 +69,8 @@ pub record Says (m : Met) (text last : List ℕ) : Type 0 where
 -- ---- status 0
 
 -- The source was read to its end, and each of its lines is done: the sink took their output, and where the disk tells, the log
--- holds each batch that they had accepted, once and in their order, now and after each crash.
+-- holds each batch that they had accepted, once and in their order, now and after each crash. The folder's manifest and `CURRENT`
+-- are those of a new store.
 pub record Finished (folder : List ℕ) (m : Met) : Type 0 where
   pub bytes : List ℕ
   pub read : Consumes m.source_before.bytes m.source_after.bytes bytes
@@ -79,6 +80,7 @@ pub record Finished (folder : List ℕ) (m : Met) : Type 0 where
   pub output : Output empty (lines bytes) outcome
   pub written : Appends m.sink_before.bytes m.sink_after.bytes outcome.text
   pub log : (story : Story) → m.disk_before.told ≡ Some story → Keeps m.disk_after.told (log_path folder) (log_of outcome.accepted)
+  pub files : (story : Story) → m.disk_before.told ≡ Some story → KeepsManifestAndCurrent m.disk_after.told folder
 
 -- ---- status 2
 
@@ -107,7 +109,8 @@ abbrev pub IsBad : List (List ℕ) → List (List ℕ) → List ℕ → Option (
 IsBad actors done part left = IsUnknown actors part left ⊎ (IsLong part ⊎ IsExtra done part)
 
 -- The run stopped at the first line that is not in the grammar: those before it are done, the last line names it, and where
--- the disk tells, the log holds each batch that they had accepted, once and in their order.
+-- the disk tells, the log holds each batch that they had accepted, once and in their order, beside the manifest and `CURRENT` of a
+-- new store.
 pub record StoppedAt (folder : List ℕ) (m : Met) : Type 0 where
   pub done : List (List ℕ)
   pub part : List ℕ
@@ -116,6 +119,7 @@ pub record StoppedAt (folder : List ℕ) (m : Met) : Type 0 where
   pub bad : IsBad outcome.after.actors done part m.source_after.bytes
   pub says : Says m outcome.text (bad_line (length done + 1))
   pub log : (story : Story) → m.disk_before.told ≡ Some story → Logs m.disk_after.told (log_path folder) outcome.accepted outcome.after.durable
+  pub files : (story : Story) → m.disk_before.told ≡ Some story → KeepsManifestAndCurrent m.disk_after.told folder
 
 -- ---- statuses 3 to 6
 
@@ -129,6 +133,7 @@ pub record ReadFailed (folder : List ℕ) (m : Met) : Type 0 where
   pub inside : IsInside part
   pub says : Says m outcome.text (with_newline (codes "read fault"))
   pub log : (story : Story) → m.disk_before.told ≡ Some story → Logs m.disk_after.told (log_path folder) outcome.accepted outcome.after.durable
+  pub files : (story : Story) → m.disk_before.told ≡ Some story → KeepsManifestAndCurrent m.disk_after.told folder
 
 -- The sink failed at the text of a line: the lines before it and the line itself are done, the sink took the text of those and
 -- a first part of the line's, and the log holds the batches that they had accepted.
@@ -147,6 +152,7 @@ pub record WriteFailed (folder : List ℕ) (m : Met) : Type 0 where
   pub parts : next.text ≡ front ++ rest
   pub took : Appends m.sink_before.bytes m.sink_after.bytes (outcome.text ++ front)
   pub log : (story : Story) → m.disk_before.told ≡ Some story → Logs m.disk_after.told (log_path folder) (outcome.accepted ++ next.accepted) next.after.durable
+  pub files : (story : Story) → m.disk_before.told ≡ Some story → KeepsManifestAndCurrent m.disk_after.told folder
 
 -- the name of the folder is taken: nothing was read or changed, and the last line says so
 pub record IsFound (folder : List ℕ) (m : Met) : Type 0 where

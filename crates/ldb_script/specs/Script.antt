@@ -6,7 +6,7 @@ use Rattle.ldb_script.specs.Words.{is_word, is_actor, bytes_of_word}
 use Rattle.ldb_script.specs.declared.line.Line.{Line}
 use Rattle.ldb_script.specs.declared.line.Line.TheVariants.{Blank, Ask}
 use Rattle.ldb_script.specs.declared.line.Command.{Command}
-use Rattle.ldb_script.specs.declared.line.Command.TheVariants.{Write, Sync, Get}
+use Rattle.ldb_script.specs.declared.line.Command.TheVariants.{Write, Sync, Get, Scan, State}
 use Rattle.lsm_rows.specs.declared.operations.Op.{Op}
 use Rattle.lsm_rows.specs.declared.operations.Op.TheVariants as ops
 
@@ -95,18 +95,21 @@ a_get [] = None
 a_get (key ∷ []) = a_get_of (bytes_of_word key)
 a_get (key ∷ more ∷ words) = None
 
-abbrev pub a_sync : List (List ℕ) → Option Command
-a_sync [] = Some Sync
-a_sync (word ∷ words) = None
+-- a command of one word
+abbrev pub a_bare : Command → List (List ℕ) → Option Command
+a_bare command [] = Some command
+a_bare command (word ∷ words) = None
 
--- the words behind the actor: `get K`, `sync`, or a write, durable or not
+-- the words behind the actor: `get K`, `sync`, `scan`, `state`, or a write, durable or not
 abbrev pub command_of : List (List ℕ) → Option Command
 command_of [] = None
 command_of (verb ∷ words) =
     if bytes_eq verb (codes "get") then a_get words
-    else (if bytes_eq verb (codes "sync") then a_sync words
+    else (if bytes_eq verb (codes "sync") then a_bare Sync words
+    else (if bytes_eq verb (codes "scan") then a_bare Scan words
+    else (if bytes_eq verb (codes "state") then a_bare State words
     else (if bytes_eq verb (codes "durable") then a_write true (write_of words)
-    else a_write false (write_of (verb ∷ words))))
+    else a_write false (write_of (verb ∷ words))))))
 
 abbrev pub asked_by : List ℕ → Option Command → Option Line
 asked_by actor None = None

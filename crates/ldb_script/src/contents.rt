@@ -1,11 +1,15 @@
 //! The pairs of a store, in the order of their keys.
-ghost use Rattle.std.specs.Prelude.{◌≡◌, OnOk};
+ghost use Rattle.std.specs.Prelude.{◌≡◌, ◌++◌, length, map, IfOk, OnOk};
 ghost use Rattle.std.specs.Option.{option_map};
 ghost use Rattle.std.specs.FinMap as finite;
-ghost use Rattle.std.specs.List.{fold};
+ghost use Rattle.std.specs.List.{flat_map, fold};
+ghost use Rattle.std.specs.BTreeMap.{IsOrdered};
 ghost use Rattle.lsm_rows.specs.Replay.{key_cmp, applied};
+ghost use Rattle.ldb_script.specs.Contents.{pair_of};
+ghost use Rattle.ldb_script.specs.Printed.{pair_line, scan_text};
 
-use lsm_bytes::NoMemory;
+use crate::printing::{push_end, push_pair};
+use lsm_bytes::{Bytes, NoMemory};
 use lsm_rows::Op;
 use std::alloc::Global;
 use std::collections::BTreeMap;
@@ -29,6 +33,21 @@ impl Model for Pairs {
     ghost view = { λ p. contents_of p.values.entries };
 }
 
+// Adds the line of each pair, in the order of the keys.
+fn push_pairs(
+    alloc: Global,
+    text: &mut Bytes,
+    values: &BTreeMap<Vec<u8>, Vec<u8>>,
+) -> Result<(), NoMemory>
+    ensures pairs { OnOk result (text.new ≡ text.old ++ flat_map pair_line (map pair_of values.now.entries)) }
+    ensures ordered { OnOk result (IsOrdered (λ x y. key_cmp x.items y.items) values.now) }
+{
+    for (key, value) in values {
+        push_pair(alloc, text, key.as_slice(), value.as_slice())?;
+    }
+    Ok(())
+}
+
 impl Pairs {
     /// No pairs.
     pub fn new(alloc: Global) -> Self
@@ -48,6 +67,23 @@ impl Pairs {
             Some(value) => Some(value.as_slice()),
             None => None,
         }
+    }
+
+    /// How many pairs there are.
+    pub fn count(&self) -> usize
+        ensures { result ≡ length (finite.entries self.now) }
+    {
+        self.values.len()
+    }
+
+    /// The text of a scan: a line for each pair, in the order of the keys, and how many there are.
+    pub fn scan(&self) -> Result<Bytes, NoMemory>
+        ensures { IfOk result (λ text. text ≡ scan_text (finite.entries self.now)) }
+    {
+        let mut text = Bytes::new(self.alloc);
+        push_pairs(self.alloc, &mut text, &self.values)?;
+        push_end(self.alloc, &mut text, self.count())?;
+        Ok(text)
     }
 
     /// Takes a key out, whether it was there or not.

@@ -6,6 +6,7 @@ mod contents;
 mod ending;
 mod input;
 mod line;
+mod opening;
 mod operations;
 mod printing;
 mod script;

@@ -3,7 +3,7 @@ ghost use Rattle.std.specs.Prelude.{◌≡◌, ◌==◌, ◌∷◌, ℕ, IfOk, m
 ghost use Rattle.std.specs.List.{slice_split};
 ghost use Rattle.std.specs.Option.{option_map};
 ghost use Rattle.ldb_script.specs.Words.{bytes_of_word};
-ghost use Rattle.ldb_script.specs.Script.{is_blank, a_put, a_delete, first_operation, words_in, operations, write_of, a_get, a_sync, a_write, command_of, line_of_words, line_of};
+ghost use Rattle.ldb_script.specs.Script.{is_blank, a_put, a_delete, first_operation, words_in, operations, write_of, a_get, a_bare, a_write, command_of, line_of_words, line_of};
 
 use crate::operations::Operations;
 use crate::words::{all_words, bytes_of_word, is_actor, split_words};
@@ -20,6 +20,10 @@ pub enum Command {
     Sync,
     /// Asks for a key's value.
     Get { key: Bytes },
+    /// Asks for each pair.
+    Scan,
+    /// Asks for the last sequence, and how many keys have a value.
+    State,
 }
 
 /// A line of a script.
@@ -152,11 +156,12 @@ fn parse_get(alloc: Global, words: &[&[u8]]) -> Result<Option<Command>, NoMemory
     }
 }
 
-fn parse_sync(words: &[&[u8]]) -> Option<Command>
-    ensures { result ≡ a_sync (map (λ w. w.now) words.now) }
+// A command that has no words behind its own.
+fn bare(command: Command, words: &[&[u8]]) -> Option<Command>
+    ensures { result ≡ a_bare command (map (λ w. w.now) words.now) }
 {
     if words.is_empty() {
-        Some(Command::Sync)
+        Some(command)
     } else {
         None
     }
@@ -171,7 +176,11 @@ fn parse_command(alloc: Global, words: &[&[u8]]) -> Result<Option<Command>, NoMe
     if *verb == b"get".as_slice() {
         parse_get(alloc, rest)
     } else if *verb == b"sync".as_slice() {
-        Ok(parse_sync(rest))
+        Ok(bare(Command::Sync, rest))
+    } else if *verb == b"scan".as_slice() {
+        Ok(bare(Command::Scan, rest))
+    } else if *verb == b"state".as_slice() {
+        Ok(bare(Command::State, rest))
     } else if *verb == b"durable".as_slice() {
         Ok(asked(true, parse_write(alloc, rest)?))
     } else {

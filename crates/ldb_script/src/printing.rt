@@ -1,7 +1,7 @@
 //! The lines that a script prints.
-ghost use Rattle.std.specs.Prelude.{◌≡◌, IfOk, OnOk};
+ghost use Rattle.std.specs.Prelude.{◌≡◌, ◌++◌, IfOk, OnOk};
 ghost use Rattle.std.specs.Option.{option_map};
-ghost use Rattle.ldb_script.specs.Printed.{sequence_line, value_line, ok_line, what_name, too_large_line, bad_line};
+ghost use Rattle.ldb_script.specs.Printed.{sequence_line, value_line, pair_line, end_line, state_line, ok_line, what_name, too_large_line, bad_line};
 
 use crate::words::push_shown;
 use lsm_bytes::{Bytes, NoMemory};
@@ -39,6 +39,37 @@ pub fn value_line(alloc: Global, value: Option<&[u8]>) -> Result<Bytes, NoMemory
     }
     text.push(b'\n')?;
     Ok(text)
+}
+
+/// Adds the line of a pair.
+#[tactic(auto, unfolding(crate::specs::Printed::pair_line))]
+pub fn push_pair(alloc: Global, text: &mut Bytes, key: &[u8], value: &[u8]) -> Result<(), NoMemory>
+    ensures { OnOk result (text.new ≡ text.old ++ pair_line (key.now, value.now)) }
+{
+    push_shown(alloc, text, key)?;
+    text.push(b' ')?;
+    push_shown(alloc, text, value)?;
+    text.push(b'\n')?;
+    Ok(())
+}
+
+/// Adds the line that ends a scan, which tells how many pairs there were.
+#[tactic(auto, unfolding(crate::specs::Printed::end_line))]
+pub fn push_end(alloc: Global, text: &mut Bytes, count: usize) -> Result<(), NoMemory>
+    ensures { OnOk result (text.new ≡ text.old ++ end_line count) }
+{
+    let line = format!(in alloc; "end {count}\n")?;
+    text.extend_from_slice(line.as_bytes())?;
+    Ok(())
+}
+
+/// The answer to a question for the state: the last sequence, and how many keys have a value.
+#[tactic(auto, unfolding(crate::specs::Printed::state_line))]
+pub fn state_line(alloc: Global, last: u64, keys: usize) -> Result<Bytes, NoMemory>
+    ensures { IfOk result (λ text. text ≡ state_line last keys) }
+{
+    let text = format!(in alloc; "seq {last} keys {keys}\n")?;
+    Bytes::from_slice(alloc, text.as_bytes())
 }
 
 fn what_name(what: What) -> &'static str

@@ -5,8 +5,9 @@ use crate::actors::Actors;
 use crate::ending::{Ended, end};
 use crate::input::{InputError, Piece, read_byte, read_line};
 use crate::line::{Command, Line};
-use crate::printing::{ok_line, sequence_line, too_large_line, value_line};
-use crate::store::{OpenError, OpenRefusal, Store, StoreError};
+use crate::opening::OpenError;
+use crate::printing::{ok_line, sequence_line, state_line, too_large_line, value_line};
+use crate::store::{OpenRefusal, Store, StoreError};
 use lsm_bytes::{Bytes, NoMemory};
 use lsm_disk::Disk;
 use lsm_io::{Clock, Sessions, Sink, Source};
@@ -135,6 +136,8 @@ fn answer<D: Disk>(alloc: Global, store: &mut Store<D>, command: &Command) -> Re
         Command::Write { durable, ops } => answer_write(alloc, store, ops.as_slice(), *durable),
         Command::Sync => answer_sync(alloc, store),
         Command::Get { key } => made(value_line(alloc, store.get(key.as_slice()))),
+        Command::Scan => made(store.scan()),
+        Command::State => made(state_line(alloc, store.sequence(), store.count())),
     }
 }
 

@@ -7,28 +7,14 @@ ghost use Rattle.lsm_disk.specs.State.{Story};
 ghost use Rattle.ldb_script.specs.declared.store.StoreError.TheVariants as store_errors;
 
 use crate::contents::Pairs;
-use lsm_bytes::NoMemory;
+use crate::opening::{OpenError, make_new};
+use lsm_bytes::{Bytes, NoMemory};
 use lsm_disk::{Disk, DiskCall, DiskError, DiskRefusal};
-use lsm_names::{FileName, Folder, Path};
+use lsm_names::{Folder, Path};
 use lsm_rows::Batch;
 use lsm_wal::Wal;
 use std::alloc::Global;
 use std::marker::Model;
-
-/// The number of the log's file.
-const LOG: u64 = 2;
-
-/// Why a store was not opened.
-#[derive(Clone, Copy)]
-pub enum OpenError {
-    /// The disk failed.
-    DiskFault,
-    /// The folder's name is taken.
-    Found,
-    /// The disk refused this call, though the name before it was free.
-    Changed { call: DiskCall, path: Path },
-    NoMemory,
-}
 
 /// A refused opening, which hands the disk back.
 pub struct OpenRefusal<D> {
@@ -73,8 +59,8 @@ impl<D: Disk> Model for Store<D> {
     ghost view = { λ s. record { disk = D.seen s.disk; log = s.wal.path; len = s.wal.len; contents = s.pairs; sequence = s.sequence } };
 }
 
-ghost use Rattle.ldb_script.specs.Stored.{log_path};
-ghost use Rattle.ldb_script.specs.Opening.{SeenStay, IsFree, store_error, open_error, MakesOr};
+ghost use Rattle.ldb_script.specs.Printed.{scan_text};
+ghost use Rattle.ldb_script.specs.Opening.{SeenStay, store_error};
 
 // A disk's refusal of a call that an opened store made.
 fn store_refused(call: DiskCall, path: &Path, error: DiskError) -> StoreError
@@ -91,60 +77,14 @@ fn store_refused(call: DiskCall, path: &Path, error: DiskError) -> StoreError
     }
 }
 
-// A disk's refusal of a call that an opening made.
-fn open_refused(call: DiskCall, path: &Path, error: DiskError) -> OpenError
-    ensures { result ≡ open_error call path.now error }
-{
-    match error {
-        DiskError::Fault => OpenError::DiskFault,
-        DiskError::NoMemory => OpenError::NoMemory,
-        DiskError::NotThere
-        | DiskError::Exists
-        | DiskError::NoLinks
-        | DiskError::NotEmpty
-        | DiskError::Short { .. } => OpenError::Changed { call, path: *path },
-    }
-}
-
-// Makes the folder and the empty log in it.
-fn make_log<D: Disk>(alloc: Global, disk: &mut D, folder: &Folder) -> Result<Wal, OpenError>
-    ensures log { IfOk result (λ wal. wal ≡ record { path = log_path folder.now; len = 0 }) }
-    ensures made { IsFree folder.now (D.seen disk.old) → MakesOr folder.now (D.seen disk.old) (D.seen disk.new) result }
-    ensures counts { SeenStay (D.seen disk.old) (D.seen disk.new) }
-{
-    let path = folder.path();
-    if let Err(error) = disk.make_folder(&path) {
-        return Err(open_refused(DiskCall::MakeFolder, &path, error));
-    }
-    match Wal::create(alloc, disk, folder.file(&FileName::Log(LOG))) {
-        Ok(wal) => Ok(wal),
-        Err(DiskRefusal { at, why }) => Err(open_refused(at.call, &at.path, why)),
-    }
-}
-
-// Makes the folder and the log where the folder's name is free.
-fn make_new<D: Disk>(alloc: Global, disk: &mut D, folder: &Folder) -> Result<Wal, OpenError>
-    ensures log { IfOk result (λ wal. wal ≡ record { path = log_path folder.now; len = 0 }) }
-    ensures made { MakesOr folder.now (D.seen disk.old) (D.seen disk.new) result }
-    ensures free { OnOk result (IsFree folder.now (D.seen disk.old)) }
-    ensures counts { SeenStay (D.seen disk.old) (D.seen disk.new) }
-{
-    let path = folder.path();
-    match disk.kind(&path) {
-        Ok(None) => make_log(alloc, disk, folder),
-        Ok(Some(_)) => Err(OpenError::Found),
-        Err(error) => Err(open_refused(DiskCall::Kind, &path, error)),
-    }
-}
-
 impl<D: Disk> Store<D> {
     ghost use Rattle.std.specs.Prelude.{[]};
     ghost use Rattle.ldb_script.specs.Plain.{Outcome};
     ghost use Rattle.ldb_script.specs.Stored.{Stands};
     ghost use Rattle.ldb_script.specs.Opening.{IsOpened, IsUnopened, HasRoom, ByOneLine, Writes, Syncs};
 
-    /// A store in a new folder of this name, with an empty log. The folder's name is free before, or the opening is
-    /// refused.
+    /// A store in a new folder of this name, with a manifest, `CURRENT` and an empty log. The folder's name is free before,
+    /// or the opening is refused. A refused opening leaves what it made.
     pub fn open(alloc: Global, mut disk: D, folder: &Folder) -> Result<Store<D>, OpenRefusal<D>>
         ensures opened { IfOk result (λ store. IsOpened folder.now (D.seen disk) store) }
         ensures refused { IfErr result (λ refusal. IsUnopened folder.now (D.seen disk) (D.seen refusal.disk) refusal.why) }
@@ -200,6 +140,27 @@ impl<D: Disk> Store<D> {
         ensures { option_map (λ value. value.now) result ≡ finite.get self.now.contents key.now }
     {
         self.pairs.get(key)
+    }
+
+    /// The last sequence.
+    pub fn sequence(&self) -> u64
+        ensures { result ≡ self.now.sequence }
+    {
+        self.sequence
+    }
+
+    /// How many keys have a value.
+    pub fn count(&self) -> usize
+        ensures { result ≡ length (finite.entries self.now.contents) }
+    {
+        self.pairs.count()
+    }
+
+    /// The text of a scan: a line for each pair, in the order of the keys, and how many there are.
+    pub fn scan(&self) -> Result<Bytes, NoMemory>
+        ensures { IfOk result (λ text. text ≡ scan_text (finite.entries self.now.contents)) }
+    {
+        self.pairs.scan()
     }
 
     /// Hands the disk back.

@@ -9,3 +9,5 @@ pub mod Now
 pub mod Moves
 pub mod Tree
 pub mod Lawful
+pub mod Built
+pub mod Left

@@ -10,3 +10,6 @@ pub mod Kinds
 pub mod Listing
 pub mod Refusals
 pub mod Answers
+pub mod Halts
+pub mod Dest
+pub mod Building

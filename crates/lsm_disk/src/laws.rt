@@ -1,13 +1,16 @@
 //! Laws of every story: each is the contract of a function that does nothing.
-ghost use Rattle.std.specs.Prelude.{◌≡◌, ◌≢◌, ℕ, List, [], ◌∷◌, ◌++◌, length, Some, None};
+ghost use Rattle.std.specs.Prelude.{◌≡◌, ◌≢◌, ℕ, ◌<◌, false, List, [], ◌∷◌, ◌++◌, length, Some, None};
 ghost use Rattle.std.specs.FinMap as map;
-ghost use Rattle.lsm_disk.specs.Names.{Node, Folder_node, File_node, Names, stands, under, renamed};
+ghost use Rattle.lsm_names.specs.declared.file_names.FileName.TheVariants.{Current};
+ghost use Rattle.lsm_disk.specs.Names.{Node, Folder_node, File_node, Names, stands, is_in, under, renamed};
 ghost use Rattle.lsm_disk.specs.State.{State, FileState, Story, Change, Created, after, state_of, names_now, new_file, longer, sure, file_at, folder_made, appended, linked, renamed_by, unnamed, file_synced, names_synced};
 ghost use Rattle.lsm_disk.specs.Tree.{IsTree, LeadsToFiles, IsLawful};
 ghost use Rattle.lsm_disk.specs.Refusals.{no_room, no_file, no_link, no_rename, no_removal};
 ghost use Rattle.lsm_disk.specs.Answers.{then_change};
 ghost use Rattle.lsm_disk.specs.Images.{Tree, IsImage, IsCut, tree_now, bytes_at};
-ghost use Rattle.lsm_disk.specs.Kept.{IsKeptFile, Spares, Everywhere};
+ghost use Rattle.lsm_disk.specs.Kept.{IsKeptName, IsKeptFile, Spares, SparesName, Everywhere};
+ghost use Rattle.lsm_disk.specs.Dest.{path_in};
+ghost use Rattle.lsm_disk.specs.Building.{Part, IsWithin, MayHaveFolder, HasNoCurrent, LacksCurrent, IsBuilt, IsWhole};
 
 /// A disk as it reads is one of its images.
 pub fn reads_as_an_image()
@@ -94,4 +97,23 @@ pub fn kept_after_syncs()
 pub fn folder_moves_whole()
     ensures { (names : Names) (from to rest : List ℕ) → ((r : List ℕ) → under [] r ≡ Some r → map.get names (to ++ r) ≡ None) → under [] rest ≡ Some rest
         → map.get (renamed from to (Some Folder_node) names) (to ++ rest) ≡ map.get names (from ++ rest) }
+{}
+
+/// What a destination's calls leave of all outside the folder: each other name, and each file
+/// that was there before.
+pub fn building_spares_others()
+    ensures names { (folder path : List ℕ) (first : ℕ) (c : Change) → IsWithin folder first c → is_in folder path ≡ false → SparesName path c }
+    ensures files { (folder path : List ℕ) (first id : ℕ) (c : Change) → IsWithin folder first c → is_in folder path ≡ false → id < first → Spares path id c }
+{}
+
+/// A folder whose name was free for good before it was begun has no `CURRENT` until it is whole.
+pub fn begun_folder_lacks_current()
+    ensures begun { (start s : State) (folder : List ℕ) (t : Tree) → MayHaveFolder start folder s t → HasNoCurrent start folder s t }
+    ensures free { (start : State) (folder : List ℕ) (names : Names) → IsLawful start → folder ≢ [] → IsKeptName start folder None → LacksCurrent start folder names
+        → map.get names (path_in folder Current) ≡ None }
+{}
+
+/// A finished folder is whole in each image.
+pub fn built_folder_is_whole()
+    ensures { (s : State) (folder : List ℕ) (parts : List Part) (t : Tree) → IsBuilt folder parts s → IsImage s t → IsWhole folder parts t }
 {}

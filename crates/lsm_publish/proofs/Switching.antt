@@ -1,5 +1,5 @@
 -- What each call of the switch leaves.
-use Rattle.std.specs.Prelude.{◌≡◌, ◌⊎◌, ℕ, List, Option, Some, IfSome, Err}
+use Rattle.std.specs.Prelude.{◌≡◌, ℕ, List, Option, Some, IfSome, Err}
 use Rattle.std.proofs.Common.{⊎_elim, inl, inr, refl, sym, ap, subst, ◌∙◌}
 use Rattle.std.specs.FinMap as map
 use Rattle.lsm_disk.specs.Names.{Node, File_node, Names, Moved, named, renamed, id_of}
@@ -18,7 +18,8 @@ use Rattle.lsm_disk.proofs.Paths.{get_put}
 use Rattle.lsm_disk.proofs.Images.{IsShown, named_image, all_push}
 use Rattle.lsm_disk.proofs.Named.{name_now, now_kept}
 use Rattle.lsm_disk.proofs.Kept.{kept_image}
-use Rattle.lsm_disk.proofs.Runs.{went_start, went_weaker, went_ok, went_refused}
+use Rattle.lsm_disk.proofs.Runs.{went_start, went_weaker, went_ok}
+use Rattle.lsm_disk.proofs.Left.{went_left}
 use Rattle.lsm_publish.specs.Publishing.{Old, HasOldOrNew, Switches, IsReady, IsSwitching, IsPublished, SwitchLeft, Switched, written}
 use Rattle.lsm_publish.proofs.Olds.{still_image, names_switch}
 
@@ -82,8 +83,8 @@ module _ (temporary path : List ℕ) (old : Old) (id : ℕ) (bytes : List ℕ) w
 
       pub refused_rename : (e : DiskError) → LeftBy (o2 ≡ o1) (Allowed (no_rename temporary path) o1 × Makes o1 (renamed_by temporary path) o2) e → IfSome o1 (λ x. RefusesBy (no_rename temporary path (state_of x)) e)
           → Went story o2 (Switches temporary path) P (SwitchLeft temporary path old id bytes call.Rename e)
-      refused_rename e did by = went_weaker (λ s. (Ready s ⊎ Switching s) × RefusesBy (no_rename temporary path s) e) _ (λ s p. record { left = p.0; by = p.1 })
-          (went_refused Ready Switching (renamed_by temporary path) (no_rename temporary path) e did by (λ s r. (refl, refl)) step_rename shows_switching begun)
+      refused_rename e did by = went_weaker (λ s. LeftBy (Ready s) (Switching s) e × RefusesBy (no_rename temporary path s) e) _ (λ s p. record { left = p.0; by = p.1 })
+          (went_left Ready Switching (renamed_by temporary path) (no_rename temporary path) e did by (λ s r. (refl, refl)) step_rename shows_switching begun)
 
       module _ {o3 : Option Story} (moved : Makes o1 (renamed_by temporary path) o2) where
         pub after_names : Makes o2 names_synced o3 → Went story o3 (Switches temporary path) P Done
@@ -91,5 +92,5 @@ module _ (temporary path : List ℕ) (old : Old) (id : ℕ) (bytes : List ℕ) w
 
         pub refused_names : (e : DiskError) → LeftBy (o3 ≡ o2) (Allowed never o2 × Makes o2 names_synced o3) e → IfSome o2 (λ x. RefusesBy (never (state_of x)) e)
             → Went story o3 (Switches temporary path) P (SwitchLeft temporary path old id bytes call.SyncNames e)
-        refused_names e did by = went_weaker (λ s. (Switching s ⊎ Done s) × RefusesBy (never s) e) _ (λ s p. record { left = p.0; by = p.1 })
-            (went_refused Switching Done names_synced never e did by (λ s w. names_switch temporary path s) step_names shows_done (after_rename moved))
+        refused_names e did by = went_weaker (λ s. LeftBy (Switching s) (Done s) e × RefusesBy (never s) e) _ (λ s p. record { left = p.0; by = p.1 })
+            (went_left Switching Done names_synced never e did by (λ s w. names_switch temporary path s) step_names shows_done (after_rename moved))

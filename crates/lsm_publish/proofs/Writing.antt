@@ -1,5 +1,5 @@
 -- What each call of the writing leaves.
-use Rattle.std.specs.Prelude.{◌≡◌, ◌≢◌, ◌⊎◌, ℕ, cond, List, take, is_some, Option, Some, None, IfSome, Err}
+use Rattle.std.specs.Prelude.{◌≡◌, ◌≢◌, ℕ, cond, List, take, is_some, Option, Some, None, IfSome, Err}
 use Rattle.std.proofs.Common.{⊎_elim, refl, sym, ap, subst}
 use Rattle.lsm_disk.specs.State.{State, Story, FileState, Created, after, state_of, new_file, longer, created, appended, file_synced, names_synced}
 use Rattle.lsm_disk.specs.Images.{Tree}
@@ -13,7 +13,8 @@ use Rattle.lsm_disk.specs.declared.calls.DiskCall.{DiskCall}
 use Rattle.lsm_disk.specs.declared.calls.DiskCall.TheVariants as call
 use Rattle.lsm_disk.specs.declared.calls.DiskRefusal.{DiskRefusal}
 use Rattle.lsm_disk.proofs.Named.{created_now, now_at, now_appended, now_synced, now_kept, appends_in_now, syncs_in_now}
-use Rattle.lsm_disk.proofs.Runs.{went_start, went_weaker, went_ok, went_refused, went_append_refused}
+use Rattle.lsm_disk.proofs.Runs.{left_cases, went_start, went_weaker, went_ok}
+use Rattle.lsm_disk.proofs.Left.{went_left, went_append_left}
 use Rattle.lsm_publish.specs.Publishing.{Old, HasOld, Writes, IsBegun, IsWriting, IsReady, IsOther, WriteLeft, Written, written}
 use Rattle.lsm_publish.proofs.Olds.{still_spared, still_image, still_names, created_spares, in_file_spares, other_new, file_writes, names_write}
 
@@ -99,8 +100,8 @@ module _ (temporary path : List ℕ) (old : Old) (id : ℕ) (bytes : List ℕ) (
 
       pub refused_create : (e : DiskError) → LeftBy (o2 ≡ o1) (Allowed (no_room temporary) o1 × Makes o1 (created temporary) o2) e → IfSome o1 (λ x. RefusesBy (no_room temporary (state_of x)) e)
           → Went story o2 (Writes temporary id) P (WriteLeft temporary path old id bytes call.Create e)
-      refused_create e did by = went_weaker (λ s. (Begun s ⊎ Writing new_file s) × RefusesBy (no_room temporary s) e) _ (λ s p. record { left = p.0; by = p.1 })
-          (went_refused Begun (Writing new_file) (created temporary) (no_room temporary) e did by (λ s b. refl) step_create (shows_writing new_file) begun)
+      refused_create e did by = went_weaker (λ s. LeftBy (Begun s) (Writing new_file s) e × RefusesBy (no_room temporary s) e) _ (λ s p. record { left = p.0; by = p.1 })
+          (went_left Begun (Writing new_file) (created temporary) (no_room temporary) e did by (λ s b. refl) step_create (shows_writing new_file) begun)
 
       module _ {o3 : Option Story} (made : Makes o1 (created temporary) o2) where
         after_append : Makes o2 (appended temporary bytes) o3 → Went story o3 (Writes temporary id) P (Writing all)
@@ -108,9 +109,9 @@ module _ (temporary path : List ℕ) (old : Old) (id : ℕ) (bytes : List ℕ) (
 
         pub refused_append : (e : DiskError) → LeftBy (o3 ≡ o2) (Allowed (no_file temporary) o2 × MakesFront temporary bytes o2 o3) e → IfSome o2 (λ x. RefusesBy (no_file temporary (state_of x)) e)
             → Went story o3 (Writes temporary id) P (WriteLeft temporary path old id bytes call.Append e)
-        refused_append e did by = went_weaker (λ s. (Writing new_file s ⊎ ((n : ℕ) × Writing (part n) s)) × RefusesBy (no_file temporary s) e) _
-            (λ s p. record { left = ⊎_elim (λ w. (0, w)) (λ w. w) p.0; by = ⊎_elim (λ w. allowed new_file s e w p.1) (λ w. allowed (part w.0) s e w.1 p.1) p.0 })
-            (went_append_refused (Writing new_file) (λ n. Writing (part n)) temporary bytes e did by (λ n. kind_append (take n bytes)) (λ n. step_append (take n bytes)) (λ n. shows_writing (part n)) (after_create made))
+        refused_append e did by = went_weaker (λ s. LeftBy (Writing new_file s) ((n : ℕ) × Writing (part n) s) e × RefusesBy (no_file temporary s) e) _
+            (λ s p. record { left = p.0; by = ⊎_elim (λ w. allowed new_file s e w p.1) (λ w. allowed (part w.0) s e w.1 p.1) (left_cases (Writing new_file s) ((n : ℕ) × Writing (part n) s) e p.0) })
+            (went_append_left (Writing new_file) (λ n. Writing (part n)) temporary bytes e did by (λ n. kind_append (take n bytes)) (λ n. step_append (take n bytes)) (λ n. shows_writing (part n)) (after_create made))
 
         module _ {o4 : Option Story} (filled : Makes o2 (appended temporary bytes) o3) where
           after_sync : Makes o3 (file_synced temporary) o4 → Went story o4 (Writes temporary id) P (Writing (written bytes))
@@ -118,9 +119,9 @@ module _ (temporary path : List ℕ) (old : Old) (id : ℕ) (bytes : List ℕ) (
 
           pub refused_sync : (e : DiskError) → LeftBy (o4 ≡ o3) (Allowed (no_file temporary) o3 × Makes o3 (file_synced temporary) o4) e → IfSome o3 (λ x. RefusesBy (no_file temporary (state_of x)) e)
               → Went story o4 (Writes temporary id) P (WriteLeft temporary path old id bytes call.Sync e)
-          refused_sync e did by = went_weaker (λ s. (Writing all s ⊎ Writing (written bytes) s) × RefusesBy (no_file temporary s) e) _
-              (λ s p. record { left = p.0; by = ⊎_elim (λ w. allowed all s e w p.1) (λ w. allowed (written bytes) s e w p.1) p.0 })
-              (went_refused (Writing all) (Writing (written bytes)) (file_synced temporary) (no_file temporary) e did by kind_sync step_sync (shows_writing (written bytes)) (after_append filled))
+          refused_sync e did by = went_weaker (λ s. LeftBy (Writing all s) (Writing (written bytes) s) e × RefusesBy (no_file temporary s) e) _
+              (λ s p. record { left = p.0; by = ⊎_elim (λ w. allowed all s e w p.1) (λ w. allowed (written bytes) s e w p.1) (left_cases (Writing all s) (Writing (written bytes) s) e p.0) })
+              (went_left (Writing all) (Writing (written bytes)) (file_synced temporary) (no_file temporary) e did by kind_sync step_sync (shows_writing (written bytes)) (after_append filled))
 
           module _ {o5 : Option Story} (sured : Makes o3 (file_synced temporary) o4) where
             pub after_names : Makes o4 names_synced o5 → Went story o5 (Writes temporary id) P Ready
@@ -128,5 +129,5 @@ module _ (temporary path : List ℕ) (old : Old) (id : ℕ) (bytes : List ℕ) (
 
             pub refused_names : (e : DiskError) → LeftBy (o5 ≡ o4) (Allowed never o4 × Makes o4 names_synced o5) e → IfSome o4 (λ x. RefusesBy (never (state_of x)) e)
                 → Went story o5 (Writes temporary id) P (WriteLeft temporary path old id bytes call.SyncNames e)
-            refused_names e did by = went_weaker (λ s. (Writing (written bytes) s ⊎ Ready s) × RefusesBy (never s) e) _ (λ s p. record { left = p.0; by = p.1 })
-                (went_refused (Writing (written bytes)) Ready names_synced never e did by (λ s w. names_write temporary id s) step_names shows_ready (after_sync sured))
+            refused_names e did by = went_weaker (λ s. LeftBy (Writing (written bytes) s) (Ready s) e × RefusesBy (never s) e) _ (λ s p. record { left = p.0; by = p.1 })
+                (went_left (Writing (written bytes)) Ready names_synced never e did by (λ s w. names_write temporary id s) step_names shows_ready (after_sync sured))

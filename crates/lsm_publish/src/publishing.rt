@@ -1,11 +1,13 @@
 //! The writing of the temporary file, and the switch of the name to it.
-ghost use Rattle.std.specs.Prelude.{◌≡◌, ◌≢◌, ℕ, List, length, Some, None, OnOk, IfSome};
+ghost use Rattle.std.specs.Prelude.{◌≡◌, ◌≢◌, ℕ, List, length, Some, None, OnOk, IfSome, IfErr};
 ghost use Rattle.lsm_disk.specs.State.{State, Story, state_of};
 ghost use Rattle.lsm_disk.specs.Images.{Tree, IsImage, bytes_at};
 ghost use Rattle.lsm_disk.specs.Goes.{Went};
-ghost use Rattle.lsm_disk.specs.Refusals.{no_room};
+ghost use Rattle.lsm_disk.specs.Halts.{IsAmong};
+ghost use Rattle.lsm_disk.specs.Refusals.{no_room, no_rename};
 ghost use Rattle.lsm_disk.specs.Answers.{HasDiskCause};
-ghost use Rattle.lsm_publish.specs.Publishing.{Old, StillHas, HasOld, HasOldOrNew, Writes, Switches, Publishes, IsReady, IsPublished, Written, Switched, Published};
+ghost use Rattle.lsm_disk.specs.declared.calls.DiskCall.TheVariants as calls;
+ghost use Rattle.lsm_publish.specs.Publishing.{Old, StillHas, HasOld, HasOldOrNew, Writes, Switches, Publishes, IsReady, IsPublished, Written, Switched, Published, write_calls, switch_calls, publish_calls, no_publishing, AnswersAs, PassedFirst, SyncsNeedNoMemory};
 
 use lsm_disk::{Disk, DiskCall, DiskError, DiskRefusal, Halt};
 use lsm_names::Path;
@@ -30,6 +32,10 @@ pub fn write_temporary<D: Disk>(
     ensures went { (story : Story) (path : List ℕ) (old : Old) → (D.seen disk.old).told ≡ Some story → StillHas path old (state_of story) → path ≢ temporary.now
         → Went story (D.seen disk.new).told (Writes temporary.now (length (state_of story).files)) (HasOld path old) (Written temporary.now path old (length (state_of story).files) bytes.now result) }
     ensures free { OnOk result (IfSome (D.seen disk.old).told (λ story. no_room temporary.now (state_of story) ≡ None)) }
+    ensures at { IfErr result (λ r. IsAmong r.at (write_calls temporary.now)) }
+    ensures answer { AnswersAs (no_room temporary.now) (D.seen disk.old) result }
+    ensures passed { PassedFirst calls.Create (no_room temporary.now) (D.seen disk.old) result }
+    ensures memory { SyncsNeedNoMemory result }
     ensures cause { HasDiskCause (D.seen disk.old) (D.seen disk.new) result }
 {
     if let Err(why) = disk.create(temporary) {
@@ -54,6 +60,10 @@ pub fn switch<D: Disk>(disk: &mut D, temporary: &Path, path: &Path) -> Result<()
     // or the new bytes.
     ensures went { (story : Story) (old : Old) (id : ℕ) (bytes : List ℕ) → (D.seen disk.old).told ≡ Some story → IsReady temporary.now path.now old id bytes (state_of story)
         → Went story (D.seen disk.new).told (Switches temporary.now path.now) (HasOldOrNew path.now old bytes) (Switched temporary.now path.now old id bytes result) }
+    ensures at { IfErr result (λ r. IsAmong r.at (switch_calls path.now)) }
+    ensures answer { AnswersAs (no_rename temporary.now path.now) (D.seen disk.old) result }
+    ensures passed { PassedFirst calls.Rename (no_rename temporary.now path.now) (D.seen disk.old) result }
+    ensures memory { SyncsNeedNoMemory result }
     ensures cause { HasDiskCause (D.seen disk.old) (D.seen disk.new) result }
 {
     if let Err(why) = disk.rename(temporary, path) {
@@ -80,6 +90,9 @@ pub fn publish<D: Disk>(
         → Went story (D.seen disk.new).told (Publishes temporary.now path.now (length (state_of story).files)) (HasOldOrNew path.now old bytes.now)
         (Published temporary.now path.now old (length (state_of story).files) bytes.now result) }
     ensures free { OnOk result (IfSome (D.seen disk.old).told (λ story. no_room temporary.now (state_of story) ≡ None)) }
+    ensures at { IfErr result (λ r. IsAmong r.at (publish_calls temporary.now path.now)) }
+    ensures answer { AnswersAs (no_publishing temporary.now path.now) (D.seen disk.old) result }
+    ensures memory { SyncsNeedNoMemory result }
     ensures cause { HasDiskCause (D.seen disk.old) (D.seen disk.new) result }
 {
     write_temporary(disk, temporary, bytes)?;

@@ -1,7 +1,7 @@
 -- A row that comes behind others in the order of their keys may be added behind them.
 use Rattle.std.proofs.Common.{◌≡◌, ℕ, ◌+◌, ◌*◌, ◌<◌, ◌≤◌, ⊎_elim, List, [], ◌∷◌, ◌++◌, length, refl, sym, ap, ◌∙◌, subst, arith, append_assoc, length-append}
 use Rattle.std.specs.Prelude.{map, All}
-use Rattle.std.specs.List.{fold}
+use Rattle.std.specs.List.{flat_map, fold}
 use Rattle.std.specs.List.Sorted.{IsStrictlySortedBy}
 use Rattle.std.specs.Ordering.{nat_cmp, ordering_then}
 use Rattle.std.specs.declared.cmp.Ordering.{Ordering}
@@ -24,16 +24,13 @@ use Rattle.lsm_table.specs.Building.{Built, IsBuilt, IsBehind}
 use Rattle.lsm_table.proofs.BuiltRows.{more_open, more_full, blocks-none, index_from-nil}
 
 -- one block behind another
-joined : List (List Entry) → List Entry
-joined [] = []
-joined (es ∷ blocks) = es ++ joined blocks
+abbrev pub joined : List (List Entry) → List Entry
+joined blocks = flat_map (λ es. es) blocks
 
 joined-cons : (es : List Entry) (blocks : List (List Entry)) → joined (es ∷ blocks) ≡ es ++ joined blocks
-unfolding joined
 joined-cons es blocks = refl
 
 joined-nil : joined [] ≡ []
-unfolding joined
 joined-nil = refl
 
 joined-push : (blocks : List (List Entry)) (es : List Entry) → joined (blocks ++ es ∷ []) ≡ joined blocks ++ es
@@ -42,9 +39,9 @@ joined-push (d ∷ blocks) es =
     joined-cons d (blocks ++ es ∷ []) ∙ ap (λ l. d ++ l) (joined-push blocks es) ∙ sym (append_assoc d (joined blocks) es) ∙ ap (λ l. l ++ es) (sym (joined-cons d blocks))
 
 -- blocks are their entries, and each ended one has some
-record AreBlocks (b : Blocks) (es : List Entry) : Type 0 where
-  all : joined b.ended ++ b.begun ≡ es
-  some : All (λ d. 1 ≤ length d) b.ended
+pub record AreBlocks (b : Blocks) (es : List Entry) : Type 0 where
+  pub all : joined b.ended ++ b.begun ≡ es
+  pub some : All (λ d. 1 ≤ length d) b.ended
 
 none_are : AreBlocks (record { ended = []; begun = [] }) []
 none_are = record { all = ap (λ l. l ++ []) joined-nil; some = All-nil (λ d. 1 ≤ length d) }
@@ -66,18 +63,18 @@ folded_are : (b : Blocks) (es more : List Entry) → AreBlocks b es → AreBlock
 folded_are b es [] are = subst (AreBlocks b) (sym (append-nil es)) are
 folded_are b es (e ∷ more) are = subst (AreBlocks (fold blocks_more (blocks_more b e) more)) (append_assoc es (e ∷ []) more) (folded_are (blocks_more b e) (es ++ e ∷ []) more (more_are b es e are))
 
-blocks_are : (es : List Entry) → AreBlocks (blocks_of es) es
+pub blocks_are : (es : List Entry) → AreBlocks (blocks_of es) es
 unfolding blocks_of
 blocks_are es = folded_are (record { ended = []; begun = [] }) [] es none_are
 
 -- what holds of each entry's key holds of the index's
-split_all : (P : List ℕ → Type 0) (a b : List Entry) → All P (keys_of (a ++ b)) → All P (keys_of a) × All P (keys_of b)
+pub split_all : (P : List ℕ → Type 0) (a b : List Entry) → All P (keys_of (a ++ b)) → All P (keys_of a) × All P (keys_of b)
 split_all P [] b all = (All-nil P, all)
 split_all P (e ∷ a) b all =
     let rest = split_all P a b (All-tail P e.key (keys_of (a ++ b)) all) in
     (All-cons P e.key (keys_of a) (All-head P e.key (keys_of (a ++ b)) all) rest.0, rest.1)
 
-index_all : (P : List ℕ → Type 0) (place : ℕ) (blocks : List (List Entry)) → All (λ d. 1 ≤ length d) blocks → All P (keys_of (joined blocks)) → All P (keys_of (index_from place blocks))
+pub index_all : (P : List ℕ → Type 0) (place : ℕ) (blocks : List (List Entry)) → All (λ d. 1 ≤ length d) blocks → All P (keys_of (joined blocks)) → All P (keys_of (index_from place blocks))
 unfolding index_from
 index_all P place [] some all = All-nil P
 index_all P place (es ∷ blocks) some all =
@@ -89,11 +86,11 @@ index_all P place (es ∷ blocks) some all =
 key-is : (row : Row) → (row_entry row).key ≡ internal_key row.key row.sequence (kind_byte (kind_of row.value))
 key-is row = refl
 
-user-is : (row : Row) → user_key (row_entry row).key ≡ row.key
+pub user-is : (row : Row) → user_key (row_entry row).key ≡ row.key
 unfolding internal_key
 user-is row = user_key_of row.key (row.sequence * 256 + kind_byte (kind_of row.value))
 
-then_less : (o p : Ordering) → o ≡ Less → ordering_then o p ≡ Less
+pub then_less : (o p : Ordering) → o ≡ Less → ordering_then o p ≡ Less
 then_less o p is = ap (λ q. ordering_then q p) is
 
 row_less : (a b : Row) → key_cmp a.key b.key ≡ Less → internal_cmp (row_entry a).key (row_entry b).key ≡ Less

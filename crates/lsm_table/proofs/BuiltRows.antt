@@ -1,5 +1,5 @@
 -- A builder's data blocks are those of its rows.
-use Rattle.std.proofs.Common.{◌≡◌, ℕ, ◌+◌, ◌<◌, ◌≤◌, ⊎_elim, ◌==◌, Bool, true, false, List, [], ◌∷◌, ◌++◌, length, refl, sym, ap, ◌∙◌, subst, arith, append_assoc, length-append}
+use Rattle.std.proofs.Common.{◌≡◌, ℕ, ◌+◌, ◌^◌, ◌<◌, ◌≤◌, ⊎_elim, ◌==◌, Bool, true, false, List, [], ◌∷◌, ◌++◌, length, refl, sym, ap, ◌∙◌, subst, arith, append_assoc, length-append}
 use Rattle.std.specs.Prelude.{map, ◌&&◌}
 use Rattle.std.specs.List.{flat_map, list_all}
 use Rattle.lsm_names.specs.Sessions.{is_session, is_session_byte}
@@ -16,10 +16,11 @@ use Rattle.lsm_rows.specs.declared.rows.Row.{Row}
 use Rattle.lsm_block.specs.declared.entries.Entry.{Entry}
 use Rattle.lsm_block.specs.BlockText.{block_text}
 use Rattle.lsm_block.specs.Parts.{last_from, last_key}
-use Rattle.lsm_block.specs.TableText.{kind_of, row_entry, Blocks, blocks_more, blocks_of, all_blocks, data_blocks, blocks_text, index_from, stored, properties_text, places_text, magic, footer_text, table_of_blocks, table_text}
+use Rattle.lsm_block.specs.TableText.{kind_of, row_entry, Blocks, blocks_more, blocks_of, all_blocks, data_blocks, blocks_text, index_from, stored, properties_text, places_text, magic, footer_text, table_of_blocks, table_text, AreTableRows}
 use Rattle.lsm_block.proofs.EntryLists.{last_key-push}
 use Rattle.lsm_table.specs.Cuts.{Cut, index_entry, end_block, added, ended}
 use Rattle.lsm_table.specs.Building.{Built, IsCutOf, IsBuilt, IsFinished}
+use Rattle.lsm_table.specs.WholeTables.{IsTable}
 use Rattle.lsm_table.proofs.Cutting.{added_open, added_full, ended_some, ended_none, end-is, stored-len}
 
 pub blocks-push : (es : List Entry) (e : Entry) → blocks_of (es ++ e ∷ []) ≡ blocks_more (blocks_of es) e
@@ -38,11 +39,11 @@ pub more_full : (b : Blocks) (e : Entry) → 4096 ≤ length (block_text (b.begu
 unfolding blocks_more
 more_full b e full = grind (arith, nat_tests)
 
-all_some : (b : Blocks) → 1 ≤ length b.begun → all_blocks b ≡ b.ended ++ b.begun ∷ []
+pub all_some : (b : Blocks) → 1 ≤ length b.begun → all_blocks b ≡ b.ended ++ b.begun ∷ []
 unfolding all_blocks
 all_some b some = grind (arith, nat_tests)
 
-all_none : (b : Blocks) → length b.begun ≡ 0 → all_blocks b ≡ b.ended
+pub all_none : (b : Blocks) → length b.begun ≡ 0 → all_blocks b ≡ b.ended
 unfolding all_blocks
 all_none b none = grind (arith, nat_tests)
 
@@ -50,11 +51,11 @@ blocks_text-push : (bs : List (List Entry)) (es : List Entry) → blocks_text (b
 unfolding blocks_text
 blocks_text-push bs es = flat_map-append (λ l. stored (block_text l)) bs (es ∷ []) ∙ ap (λ s. flat_map (λ l. stored (block_text l)) bs ++ s) (append-nil (stored (block_text es)))
 
-blocks_text-nil : blocks_text [] ≡ []
+pub blocks_text-nil : blocks_text [] ≡ []
 unfolding blocks_text
 blocks_text-nil = refl
 
-blocks_text-cons : (es : List Entry) (bs : List (List Entry)) → blocks_text (es ∷ bs) ≡ stored (block_text es) ++ blocks_text bs
+pub blocks_text-cons : (es : List Entry) (bs : List (List Entry)) → blocks_text (es ∷ bs) ≡ stored (block_text es) ++ blocks_text bs
 unfolding blocks_text
 blocks_text-cons es bs = refl
 
@@ -213,17 +214,17 @@ unfolding properties_text
 properties-len number session count twenty =
     length-append (to_le_bytes w64 number ++ session) (to_le_bytes w64 count) ∙ omega (arith, length-append (to_le_bytes w64 number) session, twenty)
 
-footer-len : (index len properties : ℕ) → length (footer_text index len properties) ≡ 36
+pub footer-len : (index len properties : ℕ) → length (footer_text index len properties) ≡ 36
 unfolding footer_text places_text
 footer-len index len properties = refl
 
-table-is : (rows : List Row) (number : ℕ) (session : List ℕ) (blocks : List (List Entry)) → data_blocks rows ≡ blocks
+pub table-is : (rows : List Row) (number : ℕ) (session : List ℕ) (blocks : List (List Entry)) → data_blocks rows ≡ blocks
     → table_text rows number session ≡ blocks_text blocks ++ stored (block_text (index_from 0 blocks)) ++ stored (properties_text number session (length rows))
     ++ footer_text (length (blocks_text blocks)) (length (block_text (index_from 0 blocks))) (length (blocks_text blocks) + length (stored (block_text (index_from 0 blocks))))
 unfolding table_text table_of_blocks
 table-is rows number session blocks same = ap (λ bs. table_of_blocks bs (length rows) number session) same
 
-data-is : (rows : List Row) → data_blocks rows ≡ all_blocks (blocks_of (map row_entry rows))
+pub data-is : (rows : List Row) → data_blocks rows ≡ all_blocks (blocks_of (map row_entry rows))
 unfolding data_blocks
 data-is rows = refl
 
@@ -302,3 +303,12 @@ session_len name is = by_test (length name == 20) refl is
 
 pub row_key : (key made user : List ℕ) (sequence : ℕ) (kind : Kind) (row : Row) → IsInternalKey key user sequence kind → user ≡ row.key → sequence ≡ row.sequence → kind ≡ kind_of row.value → made ≡ key → made ≡ (row_entry row).key
 row_key key made user sequence kind row is user_is sequence_is kind_is made_is = made_is ∙ is.is ∙ (λ i. internal_key (user_is i) (sequence_is i) (kind_byte (kind_is i)))
+
+-- a finished table is a whole one
+pub whole_made : (v : Built) (rows : List Row) (handed tail : List ℕ) (size : ℕ) (smallest largest : List ℕ) → IsFinished v rows handed tail size smallest largest → AreTableRows rows → v.number < 2 ^ 64 → is_session v.session ≡ true
+    → size < 2 ^ 32 → IsTable (handed ++ tail) rows v.number v.session
+whole_made v rows handed tail size smallest largest is are number session small = record {
+  is = record { is = is.text; are_rows = are; number_fits = number; session_len = session_len v.session session };
+  spelled = session;
+  small = omega (arith, ap (length {A = ℕ}) is.text, is.size_is, small);
+}

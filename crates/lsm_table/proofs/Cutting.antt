@@ -15,7 +15,7 @@ use Rattle.lsm_block.specs.Blocks.{IsKey, keys_of}
 use Rattle.lsm_block.specs.Parts.{last_from, last_key, next_text, IsPast}
 use Rattle.lsm_block.specs.TableText.{stored}
 use Rattle.lsm_block.proofs.Prefixes.{shared_le}
-use Rattle.lsm_block.proofs.EntryLists.{entries-nil, entries-cons, entries-push, entry_some, varint_small}
+use Rattle.lsm_block.proofs.EntryLists.{entries-nil, entries-cons, entries-push, entries_many, entry_some, varint_small}
 use Rattle.lsm_block.proofs.Keys.{key_long, keys_of-append, AreEntries-nil, AreEntries-push, last_all}
 use Rattle.lsm_block.proofs.Restarts.{block_text-len}
 use Rattle.lsm_block.proofs.Writings.{parts_long, entry_most}
@@ -267,3 +267,16 @@ ended_small c is = by_test (cases_lt 0 (length c.begun))
     by_test : (0 < length c.begun) ⊎ (length c.begun ≤ 0) → (ended c).place < 2 ^ 30
     by_test (inl some) = omega (arith, ap (λ (d : Cut). d.place) (ended_some c (omega arith) ∙ end-is c), stored-len (block_text c.begun), is.small, size-is c)
     by_test (inr none) = omega (arith, ap (λ (d : Cut). d.place) (ended_none c (omega arith)), is.small, size-is c)
+
+-- a whole table is small
+index_fits : (index : List Entry) (place : ℕ) → length (entries_text index) ≤ 4 * place → place < 2 ^ 29 + 5 → place + length (block_text index) + 82 < 2 ^ 32
+index_fits index place few small = omega (arith, block_text-len index, entries_many 0 [] index, few, small)
+
+pub fits_open : (c : Cut) → IsCut c → c.place + length (block_text c.index) + 82 < 2 ^ 32
+fits_open c is = index_fits c.index c.place is.index_small (omega (arith, is.small, size-is c))
+
+pub fits_ended : (c : Cut) (index : List Entry) (len : ℕ) → IsCut c → 1 ≤ length c.begun → index ≡ c.index ++ index_entry c.place c.begun ∷ [] → len ≡ length (stored (block_text c.begun))
+    → c.place + len + length (block_text index) + 82 < 2 ^ 32
+fits_ended c index len is some index_is len_is =
+    index_fits index (c.place + len) (omega (arith, index_more c is some, ap (λ (es : List Entry). length (entries_text es)) index_is, len_is, stored-len (block_text c.begun)))
+    (omega (arith, is.small, size-is c, len_is, stored-len (block_text c.begun)))

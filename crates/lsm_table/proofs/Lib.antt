@@ -1,8 +1,16 @@
+pub mod AfterKeys
 pub mod BehindRows
 pub mod BuiltRows
 pub mod Cutting
 pub mod DataBlocks
 pub mod Indexes
+pub mod NumberedRows
+pub mod OneTable
 pub mod Openings
+pub mod OrderedBlocks
+pub mod RowRuns
 pub mod Searches
 pub mod StoredReads
+pub mod WholeRows
+pub mod WholeSearches
+pub mod WholeTables

@@ -1,5 +1,5 @@
 -- What the parts of a table tell of its text.
-use Rattle.std.proofs.Common.{◌≡◌, ◌≢◌, inl, inr, ℕ, ◌-◌, ◌<◌, ◌≤◌, List, length, take, drop, Result, Ok, Err, IfOk, IfErr, refl, ap, sym, subst, All, ◌∙◌, arith}
+use Rattle.std.proofs.Common.{◌≡◌, ◌≢◌, inl, inr, ℕ, ◌-◌, ◌<◌, ◌≤◌, List, length, take, drop, Result, Ok, Err, IfOk, IfErr, MatchResult, refl, ap, sym, subst, All, ◌∙◌, arith}
 use Rattle.std.specs.Result.{IsErrAnd}
 use Rattle.std.proofs.lemmas.Bool.Decides.{nat_tests}
 use Rattle.std.proofs.lemmas.List.{length-drop, take_all}
@@ -20,6 +20,10 @@ use Rattle.lsm_table.specs.Tables.{Shows, AreParts}
 pub by_fault : {T : Type 0} (P : TableFault → Type 0) (r : Result T TableFault) (e : TableFault) → IsErrAnd r (λ x. x ≡ e) → P e → IfErr r P
 by_fault P (Ok x) e is p = absurd is
 by_fault P (Err y) e is p = subst P (sym is) p
+
+pub match_fault : {T : Type 0} (P : TableFault → Type 0) (Q : T → Type 0) (r : Result T TableFault) (e : TableFault) → IsErrAnd r (λ x. x ≡ e) → P e → MatchResult r Q P
+match_fault P Q (Ok x) e is p = absurd is
+match_fault P Q (Err y) e is p = subst P (sym is) p
 
 -- a fault of the view or of memory says nothing
 pub outside_fault : {A : Type 0} (read : Result A TableFault) (e : TableFault) → IsOutside e → IsFaultOf read e

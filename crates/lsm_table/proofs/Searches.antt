@@ -29,7 +29,7 @@ internal_users : (a b : List ℕ) → internal_cmp a b ≡ Less → (key_cmp (us
 unfolding internal_cmp
 internal_users a b less = users (key_cmp (user_key a) (user_key b)) (nat_cmp (trailer b) (trailer a)) less
 
-same_as : (x y key : List ℕ) → key_cmp y key ≡ Equal → key_cmp x key ≡ key_cmp x y
+pub same_as : (x y key : List ℕ) → key_cmp y key ≡ Equal → key_cmp x key ≡ key_cmp x y
 same_as x y key same =
     nat_list_cmp_total.antisymm x key ∙ ap ordering_reverse (sym (nat_list_cmp_total.congr y key x same)) ∙ sym (nat_list_cmp_total.antisymm x y)
 
@@ -44,22 +44,22 @@ not_past a b key less past same = by_users (internal_users a b less)
     by_users (inl under) = let clash : Less ≡ Greater = sym under ∙ greater in cc
     by_users (inr even) = let clash : Equal ≡ Greater = sym even ∙ greater in cc
 
-test-is : (a key : List ℕ) (o : Ordering) → key_cmp a key ≡ o → pointwise nat_eq a key ≡ is_eq o
+pub test-is : (a key : List ℕ) (o : Ordering) → key_cmp a key ≡ o → pointwise nat_eq a key ≡ is_eq o
 test-is a key o is = texts_ties a key ∙ ap is_eq is
 
-entry-cons : (key : List ℕ) (e : Entry) (es : List Entry) → entry_of key (e ∷ es) ≡ cond (pointwise nat_eq (user_key e.key) key) (Some e) (entry_of key es)
+pub entry-cons : (key : List ℕ) (e : Entry) (es : List Entry) → entry_of key (e ∷ es) ≡ cond (pointwise nat_eq (user_key e.key) key) (Some e) (entry_of key es)
 unfolding entry_of
 entry-cons key e es = refl
 
-first-cons : (key : List ℕ) (e : Entry) (es : List Entry) → first_of_user key (e ∷ es) ≡ cond (not (is_lt (key_cmp (user_key e.key) key))) (Some e) (first_of_user key es)
+pub first-cons : (key : List ℕ) (e : Entry) (es : List Entry) → first_of_user key (e ∷ es) ≡ cond (not (is_lt (key_cmp (user_key e.key) key))) (Some e) (first_of_user key es)
 unfolding first_of_user
 first-cons key e es = refl
 
-entry-nil : (key : List ℕ) → entry_of key [] ≡ None
+pub entry-nil : (key : List ℕ) → entry_of key [] ≡ None
 unfolding entry_of
 entry-nil key = refl
 
-first-nil : (key : List ℕ) → first_of_user key [] ≡ None
+pub first-nil : (key : List ℕ) → first_of_user key [] ≡ None
 unfolding first_of_user
 first-nil key = refl
 

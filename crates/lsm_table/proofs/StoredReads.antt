@@ -13,7 +13,7 @@ use Rattle.lsm_table.specs.Opening.{contents_in, footer_in, places_in, lie_in_tu
 masked_small : (c : ℕ) → masked c < 2 ^ 32
 masked_small c = omega arith
 
-eight : (n : ℕ) (tail : List ℕ) → n < 2 ^ 64 → number_at 8 (to_le_bytes w64 n ++ tail) 0 ≡ n
+pub eight : (n : ℕ) (tail : List ℕ) → n < 2 ^ 64 → number_at 8 (to_le_bytes w64 n ++ tail) 0 ≡ n
 eight n tail below = omega arith
 
 four_read : (n : ℕ) (tail : List ℕ) → n < 2 ^ 32 → number_at 4 (to_le_bytes w32 n ++ tail) 0 ≡ n

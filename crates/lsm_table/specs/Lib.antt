@@ -1,6 +1,9 @@
 pub mod Building
 pub mod Cuts
 pub mod DataBlocks
+pub mod NumberedRows
 pub mod Opening
+pub mod Rows
 pub mod Searching
 pub mod Tables
+pub mod WholeTables

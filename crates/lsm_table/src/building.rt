@@ -1,9 +1,11 @@
 //! Building a table, row by row.
-ghost use Rattle.std.specs.Prelude.{◌≡◌, ◌+◌, ◌^◌, ◌<◌, ◌≤◌, ◌∷◌, ◌++◌, [], ℕ, List, length, unwrap_or, IfOk, OnOk, OnErr, MatchOption};
+ghost use Rattle.std.specs.Prelude.{◌≡◌, ◌+◌, ◌^◌, ◌<◌, ◌≤◌, ◌∷◌, ◌++◌, [], ℕ, List, length, unwrap_or, IsTrue, IfOk, OnOk, OnErr, MatchOption};
 ghost use Rattle.lsm_rows.specs.declared.rows.Row.{Row};
-ghost use Rattle.lsm_block.specs.TableText.{kind_of, stored, properties_text, places_text, footer_text};
+ghost use Rattle.lsm_block.specs.TableText.{AreTableRows, kind_of, stored, properties_text, places_text, footer_text};
 ghost use Rattle.lsm_table.specs.Cuts.{size_of};
+ghost use Rattle.lsm_names.specs.Sessions.{is_session};
 ghost use Rattle.lsm_table.specs.Building.{IsBuilt, IsBehind, IsFinished, row_len};
+ghost use Rattle.lsm_table.specs.WholeTables.{IsTable};
 
 use crate::data_blocks::DataBlocks;
 use crate::storing::{BEHIND, checksum, push_stored};
@@ -117,8 +119,10 @@ impl TableBuilder {
     /// Ends the table, which has a row at least.
     pub fn finish(self) -> Result<Finished, NoMemory>
         requires some { 1 ≤ self.count }
-        ensures { (rows : List Row) (handed : List ℕ) → IsBuilt self rows handed
+        ensures finished { (rows : List Row) (handed : List ℕ) → IsBuilt self rows handed
             → IfOk result (λ f. IsFinished self rows handed f.tail f.size f.smallest f.largest) }
+        ensures whole { (rows : List Row) (handed : List ℕ) → IsBuilt self rows handed → AreTableRows rows
+            → IfOk result (λ f. IsTable (handed ++ f.tail) rows self.number self.session) }
     {
         let ended = self.blocks.finish()?;
         let index = ended.index.contents()?;
@@ -174,7 +178,8 @@ fn push_properties(
     count: u64,
 ) -> Result<(), NoMemory>
     ensures text { OnOk result (out.new ≡ out.old ++ stored (properties_text number session.now count)) }
-    ensures session { OnOk result (length session.now ≡ 20) }
+    ensures session { OnOk result (IsTrue (is_session session.now)) }
+    ensures number { OnOk result (number < 2 ^ 64) }
 {
     let mut properties = Bytes::new(alloc);
     properties.extend_from_slice(&number.to_le_bytes())?;

@@ -114,6 +114,7 @@ impl DataBlocks {
         ensures index { IfOk result (λ r. r.index ≡ (ended self).index) }
         ensures place { IfOk result (λ r. r.place ≡ (ended self).place) }
         ensures small { IfOk result (λ r. r.place < 2 ^ 30) }
+        ensures fits { IfOk result (λ r. r.place + length (block_text r.index) + 82 < 2 ^ 32) }
     {
         let DataBlocks {
             alloc,

@@ -37,8 +37,37 @@ pub(crate) fn tell_blocks(entries: &[Entry]) -> bool
     true
 }
 
-/// How long the contents of the data block at a place are, which some of these entries tells.
+/// How long the contents of the data block at a place are, which some of these entries tells. Where the places ascend, as
+/// in a table of ours, and the place is told, it looks at about log2 of the number of entries; else at each.
 pub(crate) fn len_at(entries: &[Entry], place: u64) -> Option<u64>
+    ensures some { IfSome result (λ len. IsTold entries.now place len) }
+    ensures none { IfNone result ((len : ℕ) → ¬ IsTold entries.now place len) }
+{
+    match len_by_halves(entries, place) {
+        Some(len) => Some(len),
+        None => len_by_each(entries, place),
+    }
+}
+
+// The same, where the places ascend. None says nothing.
+fn len_by_halves(entries: &[Entry], place: u64) -> Option<u64>
+    ensures { IfSome result (λ len. IsTold entries.now place len) }
+{
+    let middle = entries.partition_point(|entry| is_before(entry, place));
+    let entry = entries.get(middle)?;
+    len_told(entry.value.as_slice(), place)
+}
+
+// Whether an entry tells a block that stands before a place.
+fn is_before(entry: &Entry, place: u64) -> bool {
+    match block_place(entry.value.as_slice()) {
+        Some((told, _)) => told < place,
+        None => false,
+    }
+}
+
+// The same, in whatever order the places are.
+fn len_by_each(entries: &[Entry], place: u64) -> Option<u64>
     ensures some { IfSome result (λ len. IsTold entries.now place len) }
     ensures none { IfNone result ((len : ℕ) → ¬ IsTold entries.now place len) }
 {

@@ -36,8 +36,8 @@ pub fn row_of(alloc: Global, block: &Block, key: &[u8]) -> Result<Option<Row>, N
     }))
 }
 
-// The value of a row whose entry has these bytes.
-fn value_of(alloc: Global, kind: Kind, bytes: &[u8]) -> Result<Option<Bytes>, NoMemory>
+/// The value of a row whose entry has these bytes.
+pub(crate) fn value_of(alloc: Global, kind: Kind, bytes: &[u8]) -> Result<Option<Bytes>, NoMemory>
     ensures { IfOk result (λ value. IsValue kind bytes.now value) }
 {
     match kind {

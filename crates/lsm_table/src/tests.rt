@@ -70,10 +70,10 @@ fn a_block_has_rows_of_its_keys_alone(rt: HostRuntime) -> Result<(), Fail> {
 
 /// A table's text in memory. Each read fails where it is broken.
 #[derive(Drop)]
-struct TextView {
-    bytes: Vec<u8>,
-    broken: bool,
-    faults: u64,
+pub(crate) struct TextView {
+    pub(crate) bytes: Vec<u8>,
+    pub(crate) broken: bool,
+    pub(crate) faults: u64,
 }
 
 impl View for TextView {
@@ -113,7 +113,11 @@ const CHANGES: [Change; 11] = [
     (130, &[(71, 97), (72, 98), (73, 99), (74, 100), (75, 101), (76, 102), (77, 103), (78, 104), (79, 105), (80, 106), (90, 170), (91, 35), (92, 179), (93, 246)], TableFault::Malformed { place: 53 }),
 ];
 
-fn changed(alloc: Global, len: usize, changes: &[(usize, u8)]) -> Result<TextView, NoMemory> {
+pub(crate) fn changed(
+    alloc: Global,
+    len: usize,
+    changes: &[(usize, u8)],
+) -> Result<TextView, NoMemory> {
     let mut text = Bytes::from_slice(alloc, ONE.as_slice())?;
     text.truncate(len);
     let mut bytes = text.into_vec();

@@ -1,7 +1,10 @@
 -- Each exit, by what the calls before it left.
-use Rattle.std.proofs.Common.{refl}
+use Rattle.std.proofs.Common.{refl, ap}
+use Rattle.lsm_disk.specs.Refusals.{no_room}
+use Rattle.lsm_disk.specs.declared.calls.DiskRefusal.{DiskRefusal}
 use Rattle.lsm_disk.specs.declared.calls.DiskCall.TheVariants as call
 use Rattle.lsm_publish.proofs.Writing.{write_refused, refused_create, refused_append, refused_sync, refused_names, after_names}
+use Rattle.lsm_publish.proofs.Answering.{append_answers, sync_answers, answers_why}
 use Rattle.lsm_publish.proofs.publishing.write_temporary.Goals as goal
 
 pub returns-in-Err-clause-went : goal.returns-in-Err-clause-went
@@ -29,3 +32,13 @@ pub returns-clause-went : goal.returns-clause-went
 returns-clause-went g c story path old tells still apart =
     after_names c.args.temporary.now path old _ c.args.bytes.now apart story tells (record { still = still; next = refl })
     c.in_default.ensures.did c.in_default-append.ensures.did c.in_default-sync.ensures.did c.in_default-sync_names.ensures.did
+
+pub returns-in-Err-append-clause-answer : goal.returns-in-Err-append-clause-answer
+returns-in-Err-append-clause-answer g c =
+    answers_why (no_room c.args.temporary.now) (g.D.Disk.seen c.args.disk.now).told c.refused-in-Err-append.result c.in-Err-append.why (ap (λ (r : DiskRefusal). r.why) c.refused-in-Err-append.ensures)
+    (append_answers c.args.temporary.now c.args.bytes.now _ _ c.in-Err-append.why c.in_default.ensures.answer c.in_default.ensures.did c.in-Err-append.ensures.answer)
+
+pub returns-in-Err-sync-clause-answer : goal.returns-in-Err-sync-clause-answer
+returns-in-Err-sync-clause-answer g c =
+    answers_why (no_room c.args.temporary.now) (g.D.Disk.seen c.args.disk.now).told c.refused-in-Err-sync.result c.in-Err-sync.why (ap (λ (r : DiskRefusal). r.why) c.refused-in-Err-sync.ensures)
+    (sync_answers c.args.temporary.now c.args.bytes.now _ _ _ c.in-Err-sync.why c.in_default.ensures.answer c.in_default.ensures.did c.in_default-append.ensures.did c.in-Err-sync.ensures.answer)

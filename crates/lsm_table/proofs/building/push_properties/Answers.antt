@@ -1,4 +1,4 @@
-use Rattle.lsm_table.proofs.BuiltRows.{properties_made, session_len}
+use Rattle.lsm_table.proofs.BuiltRows.{properties_made}
 use Rattle.lsm_table.proofs.building.push_properties.Goals as goal
 
 pub returns-clause-text : goal.returns-clause-text
@@ -8,4 +8,4 @@ returns-clause-text c =
     c.new-properties.ensures c.in_ok-extend_from_slice.ensures c.to_le_bytes.ensures c.in_ok-extend_from_slice-2.ensures c.as_bytes.ensures.bytes c.in_ok-extend_from_slice-3.ensures c.to_le_bytes-2.ensures c.as_slice.ensures c.in_ok-push_stored.ensures.ok
 
 pub returns-clause-session : goal.returns-clause-session
-returns-clause-session c = session_len c.args.session.now c.as_bytes.ensures.session
+returns-clause-session c = c.as_bytes.ensures.session

@@ -2,6 +2,7 @@ use Rattle.std.proofs.Common.{ℕ, List, [], refl, subst, sym, ap, ◌∙◌}
 use Rattle.lsm_wal.specs.Shown.{Shown}
 use Rattle.ldb_script.specs.Stored.{Logs}
 use Rattle.ldb_script.proofs.Logs.{log_none}
+use Rattle.ldb_script.proofs.Besides.{files_new}
 use Rattle.ldb_script.proofs.store.Store.open.Goals as goal
 
 pub returns-in-Ok-clause-opened : goal.returns-in-Ok-clause-opened
@@ -15,7 +16,12 @@ returns-in-Ok-clause-opened g c =
         counted = refl;
         batches = refl;
         len = ap (λ (s : Shown). s.len) c.in-Ok.ensures.log ∙ sym log_none;
-        log = λ story tells. subst (λ (p : List ℕ). Logs told p [] 0) (sym path) (c.in-Ok.ensures.made story tells);
+        log = λ story tells.
+            let made = c.in-Ok.ensures.made story tells in
+            subst (λ (p : List ℕ). Logs told p [] 0) (sym path) (record { story = made.0; tells = made.1; wal = made.2.log });
+        beside = λ story tells.
+            let made = c.in-Ok.ensures.made story tells in
+            files_new told made.0 c.args.folder.now _ path made.1 made.2.files;
       };
       log = path;
       free = c.in-Ok.ensures.free;

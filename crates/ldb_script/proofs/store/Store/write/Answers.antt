@@ -7,7 +7,7 @@ use Rattle.lsm_disk.specs.Refusals.{no_file}
 use Rattle.lsm_disk.specs.Answers.{RefusesBy}
 use Rattle.ldb_script.specs.Opening.{ByOneLine, IsBroken}
 use Rattle.ldb_script.proofs.Sizes.{batch_fits}
-use Rattle.ldb_script.proofs.Logs.{logged, log_len, stands_written}
+use Rattle.ldb_script.proofs.Logs.{logged, beside_written, log_len, stands_written}
 use Rattle.ldb_script.proofs.Broken.{first_of, broken}
 use Rattle.ldb_script.proofs.store.Store.write.Goals as goal
 
@@ -42,6 +42,8 @@ returns-clause-writes g c start outcome was =
       stands_written start old new outcome stood batch c.args.sync
           (logged start old new outcome stood batch c.args.sync
           (λ logs. let w = c.in-Ok.ensures.went logs.story _ outcome.after.durable logs.tells (stood.len ∙ log_len outcome.accepted) logs.wal in (w.story, w.tells, w.now)) c.append.ensures.path)
+          (beside_written start old new outcome stood batch c.args.sync
+          (λ logs. let w = c.in-Ok.ensures.went logs.story _ outcome.after.durable logs.tells (stood.len ∙ log_len outcome.accepted) logs.wal in (w.story, w.tells, _, w.goes)) c.append.ensures.path)
           (c.in_ok-apply_all.ensures ∙ ap (fold applied c.self.inside.pairs) c.ops.ensures.ops)
           (ap (λ (n : ℕ). c.self.inside.sequence + n) c.len.ensures.len)
           c.in-Ok.ensures.len,

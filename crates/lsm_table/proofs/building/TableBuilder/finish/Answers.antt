@@ -1,8 +1,9 @@
-use Rattle.std.proofs.Common.{◌+◌, ◌++◌, ℕ, length, refl, sym, ap, ◌∙◌, arith}
+use Rattle.std.proofs.Common.{◌+◌, ◌^◌, ◌<◌, ◌++◌, ℕ, length, refl, sym, ap, ◌∙◌, subst, arith}
 use Rattle.lsm_block.specs.TableText.{stored, properties_text, footer_text}
 use Rattle.lsm_table.specs.Cuts.{ended}
 use Rattle.lsm_table.specs.Building.{Built}
-use Rattle.lsm_table.proofs.BuiltRows.{finished}
+use Rattle.lsm_names.specs.Sessions.{is_session}
+use Rattle.lsm_table.proofs.BuiltRows.{finished, session_len, whole_made}
 use Rattle.lsm_table.proofs.building.TableBuilder.finish.Goals as goal
 
 pub overflow_add-properties : goal.overflow_add-properties
@@ -17,14 +18,14 @@ overflow_add-result c = omega (arith, c.in_ok-ended.ensures.small, c.len.ensures
 pub overflow_add-result-2 : goal.overflow_add-result-2
 overflow_add-result-2 c = omega (arith, c.in_ok-ended.ensures.small, c.len.ensures.small)
 
-pub returns : goal.returns
-returns c =
+pub returns-clause-finished : goal.returns-clause-finished
+returns-clause-finished c =
     λ rows handed built.
     let e = c.in_ok-ended.ended in
     let properties : ℕ = e.place + c.len.result + 5 in
     finished c.args.self rows handed e.text c.in_ok-index.index c.push_footer.new.out c.push_stored.new.out c.push_properties.new.out e.index e.place c.args.self.count properties (properties + 41 + 36) c.self.inside.smallest c.in_ok-largest.largest
     built
-    (ap (λ (b : Built). length b.session) (sym c.self.view_is) ∙ c.in_ok-push_properties.ensures.session)
+    (session_len c.args.self.session (ap (λ (b : Built). is_session b.session) (sym c.self.view_is) ∙ c.in_ok-push_properties.ensures.session))
     c.requires.some
     (c.in_ok-ended.ensures.text ∙ ap (λ (b : Built). (ended b.blocks).pending) c.self.view_is)
     (c.in_ok-ended.ensures.index ∙ ap (λ (b : Built). (ended b.blocks).index) c.self.view_is)
@@ -37,3 +38,13 @@ returns c =
     refl
     (ap (λ (b : Built). b.smallest) c.self.view_is)
     (c.in_ok-largest.ensures ∙ c.last_key.ensures)
+
+pub returns-clause-whole : goal.returns-clause-whole
+returns-clause-whole c =
+    λ rows handed built are.
+    let e = c.in_ok-ended.ended in
+    let properties : ℕ = e.place + c.len.result + 5 in
+    whole_made c.args.self rows handed c.push_footer.new.out (properties + 41 + 36) c.self.inside.smallest c.in_ok-largest.largest (returns-clause-finished c rows handed built) are
+    (subst (λ (b : Built). b.number < 2 ^ 64) c.self.view_is c.in_ok-push_properties.ensures.number)
+    (ap (λ (b : Built). is_session b.session) (sym c.self.view_is) ∙ c.in_ok-push_properties.ensures.session)
+    (omega (arith, c.in_ok-ended.ensures.fits, c.len.ensures.len, ap (length {A = ℕ}) c.in_ok-index.ensures))

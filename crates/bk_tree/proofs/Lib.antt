@@ -1,0 +1,4 @@
+pub mod Holding
+pub mod Keeping
+pub mod Listing
+pub mod Sparing

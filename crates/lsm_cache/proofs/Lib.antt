@@ -1,0 +1,3 @@
+pub mod Forgetting
+pub mod Gettings
+pub mod Keeping

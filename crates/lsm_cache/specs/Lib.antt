@@ -1,0 +1,3 @@
+pub mod Getting
+pub mod Kept
+pub mod Lending

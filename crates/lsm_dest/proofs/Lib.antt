@@ -1,0 +1,8 @@
+pub mod Places
+pub mod Refusing
+pub mod Growing
+pub mod Calls
+pub mod Exits
+pub mod Along
+pub mod Lasting
+pub mod Finishing

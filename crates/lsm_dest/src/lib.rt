@@ -1,0 +1,11 @@
+//! A destination over a disk: one restored folder is built at a time, and `CURRENT` comes last.
+#![tactic(auto)]
+
+mod ending;
+mod folder_dest;
+mod halting;
+mod hand;
+#[cfg(test)]
+mod tests;
+
+pub use folder_dest::FolderDest;

@@ -1,0 +1,12 @@
+pub mod AlikeLemmas
+pub mod BatchLemmas
+pub mod EditLemmas
+pub mod FileLemmas
+pub mod LiveLemmas
+pub mod LogLemmas
+pub mod NameLemmas
+pub mod OneLogLemmas
+pub mod PlainLemmas
+pub mod PlainLogLemmas
+pub mod StandingLemmas
+pub mod TreeLemmas
