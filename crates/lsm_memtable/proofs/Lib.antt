@@ -1,0 +1,15 @@
+pub mod Feeding
+pub mod Feeds
+pub mod Heads
+pub mod Joins
+pub mod KeptRows
+pub mod KeyRanges
+pub mod NewestRows
+pub mod Progresses
+pub mod Pushes
+pub mod RowPlaces
+pub mod Sorting
+pub mod Steps
+pub mod TakingBack
+pub mod Totals
+pub mod VersionRows

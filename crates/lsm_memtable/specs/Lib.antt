@@ -1,0 +1,9 @@
+pub mod FlushPieces
+pub mod Flushes
+pub mod Flushing
+pub mod Joining
+pub mod Kept
+pub mod Memory
+pub mod Newest
+pub mod Order
+pub mod Sizes
