@@ -1,0 +1,13 @@
+pub mod Causes
+pub mod Looking
+pub mod Growing
+pub mod Copies
+pub mod Right
+pub mod Names
+pub mod Going
+pub mod Currents
+pub mod Beginning
+pub mod Ending
+pub mod Answering
+pub mod Holding
+pub mod Whole
