@@ -1,0 +1,15 @@
+pub mod BatchLemmas
+pub mod CauseLemmas
+pub mod DiskLemmas
+pub mod Entries
+pub mod FolderLogLemmas
+pub mod FoundLogLemmas
+pub mod ListLemmas
+pub mod ListedLemmas
+pub mod LogPartLemmas
+pub mod LoopLemmas
+pub mod ManifestLemmas
+pub mod NextLogLemmas
+pub mod OpenLemmas
+pub mod PartLemmas
+pub mod ReplayLemmas

@@ -1,0 +1,6 @@
+pub mod Answers
+pub mod Causes
+pub mod Contents
+pub mod Found
+pub mod Listed
+pub mod Shown

@@ -1,0 +1,44 @@
+-- The logs that a folder's listing tells.
+use Rattle.std.specs.Prelude.{◌≡◌, ℕ, ◌≤◌, Bool, true, false, ◌&&◌, nat_le, if◌then◌else◌, min, List, [], ◌∷◌, Option, Some, None}
+use Rattle.lsm_names.specs.declared.file_names.FileName.{FileName}
+use Rattle.lsm_names.specs.declared.file_names.FileName.TheVariants.{Log, Table, Manifest, Temp, Current}
+use Rattle.lsm_disk.specs.Names.{is_folder}
+use Rattle.lsm_disk.specs.State.{Story, state_of, names_now}
+use Rattle.lsm_disk.specs.Listing.{listing}
+use Rattle.lsm_disk.specs.declared.calls.Kind.{Kind}
+use Rattle.lsm_disk.specs.declared.calls.Kind.TheVariants.{File, Folder}
+use Rattle.lsm_disk.specs.declared.listing.Entry.{Entry}
+use Rattle.lsm_folder.specs.Names.{name_of}
+
+-- these are the entries of a folder of the disk
+pub record IsListing (dir : List ℕ) (story : Story) (entries : List Entry) : Type 0 where
+  pub folder : is_folder (names_now (state_of story)) dir ≡ true
+  pub entries_are : entries ≡ listing dir (names_now (state_of story))
+
+-- the number of a log's name, from this number on
+abbrev pub log_number : ℕ → Option FileName → Option ℕ
+log_number least None = None
+log_number least (Some (Log number)) = if nat_le least number then Some number else None
+log_number least (Some (Table number)) = None
+log_number least (Some (Manifest number)) = None
+log_number least (Some (Temp number)) = None
+log_number least (Some Current) = None
+
+abbrev pub number_by : ℕ → List ℕ → Kind → Option ℕ
+number_by least name File = log_number least (name_of name)
+number_by least name Folder = None
+
+-- the number of the log that an entry is, from this number on; a folder is no log
+abbrev pub log_in : ℕ → Entry → Option ℕ
+log_in least entry = number_by least entry.name entry.kind
+
+-- the lesser of two numbers, where they are there
+abbrev pub lesser : Option ℕ → Option ℕ → Option ℕ
+lesser None other = other
+lesser (Some number) None = Some number
+lesser (Some number) (Some other) = Some (min number other)
+
+-- the least number of a log among the entries, from this number on
+abbrev pub next_log : ℕ → List Entry → Option ℕ
+next_log least [] = None
+next_log least (entry ∷ entries) = lesser (log_in least entry) (next_log least entries)
