@@ -1,0 +1,13 @@
+pub mod Paths
+pub mod Copying
+pub mod Stopping
+pub mod Shown
+pub mod Creating
+pub mod Preparing
+pub mod Publishing
+pub mod Returning
+pub mod Answering
+pub mod Standing
+pub mod Leaving
+pub mod Opening
+pub mod Restoring

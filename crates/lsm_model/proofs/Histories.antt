@@ -1,0 +1,171 @@
+-- Laws over runs of steps.
+use Rattle.std.specs.Prelude.{◌≡◌, ℕ, ◌+◌, ◌≤◌, true, false, ◌==◌, List, [], ◌∷◌, ◌++◌, length, take, Option, Some, None}
+use Rattle.std.proofs.Common.{refl, sym, ap, subst, ◌∙◌, arith, append_assoc}
+use Rattle.std.proofs.lemmas.List.{take-append-le, append-nil}
+use Rattle.std.specs.Option.{option_map}
+use Rattle.lsm_rows.specs.declared.operations.Op.{Op}
+use Rattle.lsm_rows.specs.Replay.{replayed, sequence_after}
+use Rattle.lsm_model.specs.declared.events.Event.{Event}
+use Rattle.lsm_model.specs.declared.replies.Reply.{Reply}
+use Rattle.lsm_model.specs.declared.states.State.{State}
+use Rattle.lsm_model.specs.declared.states.Pin.{Pin}
+use Rattle.lsm_model.specs.declared.states.PinnedFile.{PinnedFile}
+use Rattle.lsm_model.specs.declared.states.FolderRead.{FolderRead}
+use Rattle.lsm_model.specs.declared.states.Holder.{Holder}
+use Rattle.lsm_model.specs.States.{shown_at, last_of, pin_of, with_pin, without_pin, folder_of}
+use Rattle.lsm_model.specs.Steps.{Step, Run}
+use Rattle.lsm_model.specs.Runs.{Core, core, Moves, Same, Wrote, Pinned, Spent, Unpinned, Stepped, Published, Counted, added_by, accepted_in}
+use Rattle.lsm_model.proofs.Cores.{moved}
+use Rattle.lsm_model.proofs.PinLemmas.{found_number, found_before, gone, others_stay, placed, others_kept, folder_stays, same_if, not_if}
+
+pub run_more : (s m t : State) (steps : List (Event × Reply)) (e : Event) (r : Reply) → Run s steps m → Step m e r t → Run s (steps ++ (e, r) ∷ []) t
+run_more s m t [] e r run step = (t, subst (λ (q : State). Step q e r t) run step, refl)
+run_more s m t (x ∷ steps) e r run step = (run.0, run.1, run_more run.0 m t steps e r run.2 step)
+
+-- ---- the list of accepted batches
+
+module _ (a b : Core) (batches : List (List Op)) where
+  stays : batches ≡ [] → b.accepted ≡ a.accepted → b.accepted ≡ a.accepted ++ batches
+  stays none same = same ∙ sym (append-nil a.accepted) ∙ ap (λ (l : List (List Op)). a.accepted ++ l) (sym none)
+
+  pub moves_accepted : Moves a b batches → b.accepted ≡ a.accepted ++ batches
+  moves_accepted m = elim m [
+    | Same none is ↦ stays none (ap (λ (c : Core). c.accepted) is)
+    | Wrote ops one is ↦ ap (λ (c : Core). c.accepted) is ∙ ap (λ (l : List (List Op)). a.accepted ++ l) (sym one)
+    | Pinned holder files none is ↦ stays none (ap (λ (c : Core). c.accepted) is)
+    | Spent none is ↦ stays none (ap (λ (c : Core). c.accepted) is)
+    | Unpinned number none is ↦ stays none (ap (λ (c : Core). c.accepted) is)
+    | Stepped number pin holder none found is ↦ stays none (ap (λ (c : Core). c.accepted) is)
+    | Published number folder none is ↦ stays none (ap (λ (c : Core). c.accepted) is)
+    | Counted count none is ↦ stays none (ap (λ (c : Core). c.accepted) is)
+  ]
+
+  -- what no step changes
+  pub moves_base : Moves a b batches → (b.own ≡ a.own) × (b.opening ≡ a.opening) × (b.began ≡ a.began)
+  moves_base m = elim m [
+    | Same none is ↦ (ap (λ (c : Core). c.own) is, ap (λ (c : Core). c.opening) is, ap (λ (c : Core). c.began) is)
+    | Wrote ops one is ↦ (ap (λ (c : Core). c.own) is, ap (λ (c : Core). c.opening) is, ap (λ (c : Core). c.began) is)
+    | Pinned holder files none is ↦ (ap (λ (c : Core). c.own) is, ap (λ (c : Core). c.opening) is, ap (λ (c : Core). c.began) is)
+    | Spent none is ↦ (ap (λ (c : Core). c.own) is, ap (λ (c : Core). c.opening) is, ap (λ (c : Core). c.began) is)
+    | Unpinned number none is ↦ (ap (λ (c : Core). c.own) is, ap (λ (c : Core). c.opening) is, ap (λ (c : Core). c.began) is)
+    | Stepped number pin holder none found is ↦ (ap (λ (c : Core). c.own) is, ap (λ (c : Core). c.opening) is, ap (λ (c : Core). c.began) is)
+    | Published number folder none is ↦ (ap (λ (c : Core). c.own) is, ap (λ (c : Core). c.opening) is, ap (λ (c : Core). c.began) is)
+    | Counted count none is ↦ (ap (λ (c : Core). c.own) is, ap (λ (c : Core). c.opening) is, ap (λ (c : Core). c.began) is)
+  ]
+
+pub run_accepted : (s t : State) (steps : List (Event × Reply)) → Run s steps t → t.accepted ≡ s.accepted ++ accepted_in steps
+run_accepted s t [] run = ap (λ (q : State). q.accepted) run ∙ sym (append-nil s.accepted)
+run_accepted s t (x ∷ steps) run =
+    run_accepted run.0 t steps run.2
+    ∙ ap (λ (l : List (List Op)). l ++ accepted_in steps) (moves_accepted (core s) (core run.0) (added_by x.0 x.1) (moved s run.0 x.0 x.1 run.1))
+    ∙ append_assoc s.accepted (added_by x.0 x.1) (accepted_in steps)
+
+pub run_base : (s t : State) (steps : List (Event × Reply)) → Run s steps t → (t.own ≡ s.own) × (t.opening ≡ s.opening) × (t.began ≡ s.began)
+run_base s t [] run = (ap (λ (q : State). q.own) run, ap (λ (q : State). q.opening) run, ap (λ (q : State). q.began) run)
+run_base s t (x ∷ steps) run =
+    let later = run_base run.0 t steps run.2 in
+    let first = moves_base (core s) (core run.0) (added_by x.0 x.1) (moved s run.0 x.0 x.1 run.1) in
+    (later.0 ∙ first.0, later.1 ∙ first.1, later.2 ∙ first.2)
+
+-- ---- sequences
+
+sequence_append : (start : ℕ) (xs ys : List (List Op)) → sequence_after start (xs ++ ys) ≡ sequence_after (sequence_after start xs) ys
+sequence_append start [] ys = refl
+sequence_append start (x ∷ xs) ys = sequence_append (start + length x) xs ys
+
+pub run_last : (s t : State) (steps : List (Event × Reply)) → Run s steps t → last_of t ≡ sequence_after (last_of s) (accepted_in steps)
+run_last s t steps run =
+    ap (λ (n : ℕ). sequence_after n t.accepted) (run_base s t steps run).2
+    ∙ ap (sequence_after s.began) (run_accepted s t steps run)
+    ∙ sequence_append s.began s.accepted (accepted_in steps)
+
+-- what is shown after a front of the batches stays
+pub shown_stays : (s t : State) (count : ℕ) (steps : List (Event × Reply)) → Run s steps t → count ≤ length s.accepted → shown_at t count ≡ shown_at s count
+shown_stays s t count steps run within =
+    let base = run_base s t steps run in
+    let front : take count t.accepted ≡ take count s.accepted = ap (take count) (run_accepted s t steps run) ∙ take-append-le count s.accepted (accepted_in steps) within in
+    λ i. record { sequence = sequence_after (base.2 i) (front i); contents = replayed (base.1 i) (front i) }
+
+-- ---- pins
+
+-- a pin that is gone, or has these batches and files
+abbrev pub HasOnly : ℕ → List PinnedFile → Option Pin → Type 0
+HasOnly batches files None = Unit {0}
+HasOnly batches files (Some pin) = (pin.batches ≡ batches) × (pin.files ≡ files)
+
+-- the same of a number that is given already
+pub record IsHeld (number batches : ℕ) (files : List PinnedFile) (a : Core) : Type 0 where
+  pub given : number ≤ a.greatest_pin
+  pub only : HasOnly batches files (pin_of number a.pins)
+
+module _ (number batches : ℕ) (files : List PinnedFile) (a : Core) (held : IsHeld number batches files a) where
+  along : (b : Core) → a.greatest_pin ≤ b.greatest_pin → pin_of number b.pins ≡ pin_of number a.pins → IsHeld number batches files b
+  along b later same = record { given = omega (arith, held.given, later); only = subst (HasOnly batches files) (sym same) held.only }
+
+  unpinned : (other : ℕ) → HasOnly batches files (pin_of number (without_pin other a.pins))
+  unpinned other = elim (other == number) as (λ b. (other == number) ≡ b → HasOnly batches files (pin_of number (without_pin other a.pins))) [
+    | true ↦ λ test. subst (λ (n : ℕ). HasOnly batches files (pin_of number (without_pin n a.pins))) (sym (same_if other number test)) (subst (HasOnly batches files) (sym (gone number a.pins)) tt)
+    | false ↦ λ test. subst (HasOnly batches files) (sym (others_stay number other a.pins (λ e. not_if other number test (sym e)))) held.only
+  ] refl
+
+  changed : (new : Pin) → HasOnly batches files (Some new) → HasOnly batches files (option_map (λ (p : Pin). new) (pin_of new.number a.pins))
+  changed new has = elim (pin_of new.number a.pins) as (λ o. HasOnly batches files (option_map (λ (p : Pin). new) o)) [ None ↦ tt | Some p ↦ has ]
+
+  stepped : (at : ℕ) (pin : Pin) (holder : Holder) → pin_of at a.pins ≡ Some pin → HasOnly batches files (pin_of number (with_pin (record pin { holder = holder }) a.pins))
+  stepped at pin holder found = elim (pin.number == number) as (λ b. (pin.number == number) ≡ b → HasOnly batches files (pin_of number (with_pin (record pin { holder = holder }) a.pins))) [
+    | true ↦ λ test.
+        let same : pin.number ≡ number = same_if pin.number number test in
+        let here : pin_of number a.pins ≡ Some pin = ap (λ (n : ℕ). pin_of n a.pins) (sym same ∙ found_number at a.pins pin found) ∙ found in
+        let has : HasOnly batches files (Some pin) = subst (HasOnly batches files) here held.only in
+        subst (λ (n : ℕ). HasOnly batches files (pin_of n (with_pin (record pin { holder = holder }) a.pins))) same
+        (subst (HasOnly batches files) (sym (placed (record pin { holder = holder }) a.pins)) (changed (record pin { holder = holder }) has))
+    | false ↦ λ test. subst (HasOnly batches files) (sym (others_kept number (record pin { holder = holder }) a.pins (λ e. not_if pin.number number test (sym e)))) held.only
+  ] refl
+
+  pub moves_held : (b : Core) (added : List (List Op)) → Moves a b added → IsHeld number batches files b
+  moves_held b added m =
+      let P : Core → Type 0 = IsHeld number batches files in
+      elim m [
+        | Same none is ↦ subst P (sym is) held
+        | Wrote ops one is ↦ subst P (sym is) (record { given = held.given; only = held.only })
+        | Pinned holder pinned none is ↦ subst P (sym is) (record {
+          given = omega (arith, held.given);
+          only = subst (HasOnly batches files) (sym (found_before number a.pins (record { number = a.greatest_pin + 1; batches = length a.accepted; files = pinned; holder = holder }) (omega (arith, held.given)))) held.only;
+        })
+        | Spent none is ↦ subst P (sym is) (record { given = omega (arith, held.given); only = held.only })
+        | Unpinned other none is ↦ subst P (sym is) (record { given = held.given; only = unpinned other })
+        | Stepped at pin holder none found is ↦ subst P (sym is) (record { given = held.given; only = stepped at pin holder found })
+        | Published other folder none is ↦ subst P (sym is) (record { given = held.given; only = unpinned other })
+        | Counted count none is ↦ subst P (sym is) (record { given = held.given; only = held.only })
+      ]
+
+run_held : (s t : State) (steps : List (Event × Reply)) (number batches : ℕ) (files : List PinnedFile) → Run s steps t → IsHeld number batches files (core s) → IsHeld number batches files (core t)
+run_held s t [] number batches files run held = subst (λ (q : State). IsHeld number batches files (core q)) (sym run) held
+run_held s t (x ∷ steps) number batches files run held =
+    run_held run.0 t steps number batches files run.2 (moves_held number batches files (core s) held (core run.0) (added_by x.0 x.1) (moved s run.0 x.0 x.1 run.1))
+
+pub pin_stays : (s t : State) (steps : List (Event × Reply)) (number : ℕ) (pin later : Pin) → Run s steps t → number ≤ s.greatest_pin
+    → pin_of number s.pins ≡ Some pin → pin_of number t.pins ≡ Some later → (later.batches ≡ pin.batches) × (later.files ≡ pin.files)
+pin_stays s t steps number pin later run given found still =
+    let held = run_held s t steps number pin.batches pin.files run (record { given = given; only = subst (HasOnly pin.batches pin.files) (sym found) (refl, refl) }) in
+    subst (HasOnly pin.batches pin.files) still held.only
+
+-- ---- folders
+
+moves_folder : (a b : Core) (added : List (List Op)) (name : List ℕ) (folder : FolderRead) → Moves a b added → folder_of name a.folders ≡ Some folder → folder_of name b.folders ≡ Some folder
+moves_folder a b added name folder m found =
+    let P : Core → Type 0 = λ c. folder_of name c.folders ≡ Some folder in
+    elim m [
+      | Same none is ↦ subst P (sym is) found
+      | Wrote ops one is ↦ subst P (sym is) found
+      | Pinned holder pinned none is ↦ subst P (sym is) found
+      | Spent none is ↦ subst P (sym is) found
+      | Unpinned other none is ↦ subst P (sym is) found
+      | Stepped at pin holder none here is ↦ subst P (sym is) found
+      | Published other new none is ↦ subst P (sym is) (folder_stays name a.folders folder new found)
+      | Counted count none is ↦ subst P (sym is) found
+    ]
+
+pub run_folder : (s t : State) (steps : List (Event × Reply)) (name : List ℕ) (folder : FolderRead) → Run s steps t → folder_of name s.folders ≡ Some folder → folder_of name t.folders ≡ Some folder
+run_folder s t [] name folder run found = subst (λ (q : State). folder_of name q.folders ≡ Some folder) (sym run) found
+run_folder s t (x ∷ steps) name folder run found = run_folder run.0 t steps name folder run.2 (moves_folder (core s) (core run.0) (added_by x.0 x.1) name folder (moved s run.0 x.0 x.1 run.1) found)

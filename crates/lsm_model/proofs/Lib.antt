@@ -1,0 +1,9 @@
+mod BatchLemmas
+mod Cores
+mod CrashLemmas
+mod Entries
+mod Histories
+mod KnownLemmas
+mod PinLemmas
+mod PlainLemmas
+mod RefusalLemmas

@@ -1,0 +1,290 @@
+-- What a plain store's answers are steps of.
+use Rattle.std.specs.Prelude.{◌≡◌, ◌≢◌, ℕ, zero, suc, ◌+◌, ◌-◌, ◌<◌, ◌≤◌, Bool, true, false, not, ◌==◌, ◌&&◌, nat_lt, nat_le, cond, List, [], ◌∷◌, ◌++◌, length, map, All, Option, Some, None, Ok, Err}
+use Rattle.std.proofs.Common.{refl, sym, ap, subst, ◌∙◌, arith}
+use Rattle.std.proofs.lemmas.Bool.Decides.{nat_tests}
+use Rattle.std.proofs.lemmas.List.{take-append-le, length-append}
+use Rattle.std.specs.Option.{option_map}
+use Rattle.std.proofs.lemmas.List.Elements.{All-nil, All-push}
+use Rattle.lsm_model.specs.declared.states.FolderRead.{FolderRead}
+use Rattle.std.specs.FinMap as finite
+use Rattle.lsm_rows.specs.declared.operations.Op.{Op}
+use Rattle.lsm_rows.specs.Replay.{Contents, replayed, sequence_after}
+use Rattle.lsm_model.specs.declared.errors.StoreError.{StoreError}
+use Rattle.lsm_model.specs.declared.errors.StoreError.TheVariants as error
+use Rattle.lsm_disk.specs.declared.calls.Halt.{Halt}
+use Rattle.lsm_model.specs.declared.events.Which.{Which}
+use Rattle.lsm_model.specs.declared.events.Which.TheVariants as which
+use Rattle.lsm_model.specs.declared.cuts.CutFile.{CutFile}
+use Rattle.lsm_model.specs.declared.cuts.LiveFiles.{LiveFiles}
+use Rattle.lsm_model.specs.declared.cuts.FlushRule.{FlushRule}
+use Rattle.lsm_model.specs.declared.cuts.FlushRule.TheVariants as rule
+use Rattle.lsm_model.specs.declared.replies.Flushed.TheVariants as flush
+use Rattle.lsm_model.specs.declared.replies.Begun.TheVariants as begun
+use Rattle.lsm_model.specs.declared.replies.Stepped.TheVariants as merge
+use Rattle.lsm_model.specs.declared.replies.Deleted.TheVariants as delete
+use Rattle.lsm_model.specs.declared.states.State.{State}
+use Rattle.lsm_model.specs.declared.states.Pin.{Pin}
+use Rattle.lsm_model.specs.declared.states.Holder.{Holder}
+use Rattle.lsm_model.specs.declared.states.Holder.TheVariants.{Caller}
+use Rattle.lsm_model.specs.declared.cuts.Cut.{Cut}
+use Rattle.lsm_model.specs.declared.plain.PlainStore.{PlainStore}
+use Rattle.lsm_model.specs.declared.plain.PlainFolder.{PlainFolder}
+use Rattle.lsm_model.specs.States.{last_of, contents_now}
+use Rattle.lsm_model.specs.Moves.{Becomes, Settles, Flushes}
+use Rattle.lsm_model.specs.Causes.{last_sequence, number_end, disable_limit, pin_limit, pins_full, refused_if, first_of, sequence_full, halted}
+use Rattle.lsm_model.specs.Answers.{Done, Refused, Usual}
+use Rattle.lsm_model.specs.Writes.{Writes, SyncsLog, with_batch, all_durable}
+use Rattle.lsm_model.specs.Reads.{Gets, Scans}
+use Rattle.lsm_model.specs.Upkeep as upkeep
+use Rattle.lsm_model.specs.Upkeep.{is_in_shape}
+use Rattle.lsm_model.specs.Pins.{Cuts, CutsAt, IsFlushed, Disables, Enables, ListsFiles, FreeOfLogs, IsNoLog, listed, pinned}
+use Rattle.lsm_model.specs.Plain.{state_of, plain_folder, IsPlain, IsPlainPin}
+
+-- ---- tests
+
+pub test_yes : (test : Bool) (e : StoreError) → test ≡ true → refused_if test e ≡ Some e
+test_yes test e is = ap (λ (b : Bool). refused_if b e) is
+
+pub test_no : (test : Bool) (e : StoreError) → test ≡ false → refused_if test e ≡ None
+test_no test e is = ap (λ (b : Bool). refused_if b e) is
+
+pub le_yes : (a b : ℕ) → a ≤ b → nat_le a b ≡ true
+le_yes a b le = grind (arith, nat_tests)
+
+pub le_no : (a b : ℕ) → b < a → nat_le a b ≡ false
+le_no a b less = grind (arith, nat_tests)
+
+pub lt_yes : (a b : ℕ) → a < b → nat_lt a b ≡ true
+lt_yes a b less = grind (arith, nat_tests)
+
+pub lt_no : (a b : ℕ) → b ≤ a → nat_lt a b ≡ false
+lt_no a b le = grind (arith, nat_tests)
+
+pub same_state : (s : State) → Becomes s s
+same_state s = record { rest = refl; faults = omega arith; refusals = omega arith }
+
+-- ---- disables
+
+pub disabled : (s : State) → s.disables < disable_limit → Disables s (Ok (s.disables + 1)) (record s { disables = s.disables + 1 })
+disabled s less = Done (s.disables + 1) refl (test_no _ _ (le_no disable_limit s.disables less)) (refl, refl)
+
+pub disable_full : (s : State) → disable_limit ≤ s.disables → Disables s (Err (error.DisablesFull s.disables)) s
+disable_full s le = Refused (error.DisablesFull s.disables) refl (test_yes _ _ (le_yes disable_limit s.disables le)) refl
+
+none_is : (n : ℕ) → n ≢ 0 → (n == 0) ≡ false
+none_is n some = grind (arith, nat_tests)
+
+pub enabled : (s : State) → s.disables ≢ 0 → Enables s (Ok (s.disables - 1)) (record s { disables = s.disables - 1 })
+enabled s some = Done (s.disables - 1) refl (test_no _ _ (none_is s.disables some)) (omega (arith, some), refl)
+
+pub enable_none : (s : State) → s.disables ≡ 0 → Enables s (Err error.NotDisabled) s
+enable_none s none = Refused error.NotDisabled refl (ap (λ (n : ℕ). refused_if (n == 0) error.NotDisabled) none) refl
+
+-- ---- reads
+
+pub got : (s : State) (key : List ℕ) (value : Option (List ℕ)) → value ≡ finite.get (contents_now s) key → Gets s key (Ok value) s
+got s key value is = Done value refl refl (is, same_state s)
+
+pub scanned : (s : State) (pairs : Contents) → pairs ≡ contents_now s → Scans s (Ok pairs) s
+scanned s pairs is = Done pairs refl refl (is, same_state s)
+
+-- ---- upkeep: there are no tables
+
+none_to : (p : PlainStore) (which : Which) → upkeep.nothing_to which (state_of p) ≡ true
+unfolding is_in_shape
+none_to p which.Shape = refl
+none_to p which.All = refl
+
+pub nothing_to_compact : (p : PlainStore) (which : Which) → upkeep.BeginsCompaction (state_of p) which (Ok begun.Nothing) (state_of p)
+nothing_to_compact p which = Done begun.Nothing refl refl (refl, none_to p which, refl)
+
+pub no_compaction : (p : PlainStore) → upkeep.StepsCompaction (state_of p) (Ok merge.NoJob) (state_of p)
+no_compaction p = upkeep.Usual (Done merge.NoJob refl refl (refl, refl))
+
+pub settled : (p : PlainStore) → IsPlain p → Settles (state_of p) (state_of p)
+settled p is = record { rest = same_state (state_of p); durable = omega arith; within = is.durable }
+
+pub none_deleted : (p : PlainStore) → IsPlain p → p.disables ≡ 0 → upkeep.Deletes (state_of p) (Ok delete.Nothing) (state_of p)
+none_deleted p is none = Done delete.Nothing refl refl (none, settled p is)
+
+pub deletion_disabled : (s : State) → s.halt ≡ None → s.disables ≢ 0 → upkeep.Deletes s (Ok (delete.Disabled s.disables)) s
+deletion_disabled s runs some = Done (delete.Disabled s.disables) refl (ap (option_map error.Halted) runs) (refl, some, refl)
+
+pub none_frozen : (p : PlainStore) → p.frozen ≡ 0 → upkeep.StepsFlush (state_of p) (Ok flush.NoJob) (state_of p)
+none_frozen p none = upkeep.Usual (Done flush.NoJob refl refl (none, refl))
+
+-- rows leave memory
+pub flushed : (p : PlainStore) (active frozen : ℕ) → IsPlain p → Flushes (state_of p) (state_of (record p { active = active; frozen = frozen }))
+flushed p active frozen is = record {
+  rest = record { rest = record { rest = refl; faults = omega arith; refusals = omega arith }; durable = omega arith; within = is.durable };
+  next = omega arith;
+}
+
+pub all_flushed : (p : PlainStore) → IsPlain p → p.frozen ≢ 0 → upkeep.StepsFlush (state_of p) (Ok flush.Installed) (state_of (record p { frozen = 0 }))
+all_flushed p is some =
+    upkeep.Usual (Done flush.Installed refl refl (some, record { rest = flushed p p.active 0 is; active = refl; frozen = refl; tables = omega arith }))
+
+-- ---- freeze
+
+can_not : (active frozen : ℕ) → active ≡ 0 → (not (active == 0) && frozen == 0) ≡ false
+can_not active frozen none = grind (arith, nat_tests)
+
+can_not_twice : (active frozen : ℕ) → frozen ≢ 0 → (not (active == 0) && frozen == 0) ≡ false
+can_not_twice active frozen some = elim (active == 0) as (λ b. (not b && frozen == 0) ≡ false) [ true ↦ refl | false ↦ none_is frozen some ]
+
+can : (active frozen : ℕ) → active ≢ 0 → frozen ≡ 0 → (not (active == 0) && frozen == 0) ≡ true
+can active frozen some none = grind (arith, nat_tests)
+
+log_test : (s : State) (b : Bool) → upkeep.can_freeze s ≡ b → s.halt ≡ None → first_of (halted s ∷ upkeep.no_number_for_log (upkeep.can_freeze s) s ∷ []) ≡ first_of (upkeep.no_number_for_log b s ∷ [])
+log_test s b is runs =
+    ap (λ (o : Option Halt). first_of (option_map error.Halted o ∷ upkeep.no_number_for_log (upkeep.can_freeze s) s ∷ [])) runs
+    ∙ ap (λ (c : Bool). first_of (upkeep.no_number_for_log c s ∷ [])) is
+
+pub not_frozen : (s : State) → s.halt ≡ None → upkeep.can_freeze s ≡ false → upkeep.Freezes s (Ok false) s
+not_frozen s runs is = Done false refl (log_test s false is runs) (is, refl)
+
+pub none_active : (p : PlainStore) → p.active ≡ 0 → upkeep.Freezes (state_of p) (Ok false) (state_of p)
+none_active p none = not_frozen (state_of p) refl (can_not p.active p.frozen none)
+
+pub frozen_already : (p : PlainStore) → p.frozen ≢ 0 → upkeep.Freezes (state_of p) (Ok false) (state_of p)
+frozen_already p some = not_frozen (state_of p) refl (can_not_twice p.active p.frozen some)
+
+pub no_number : (p : PlainStore) → p.active ≢ 0 → p.frozen ≡ 0 → number_end ≤ p.next → upkeep.Freezes (state_of p) (Err (error.NumbersFull p.next)) (state_of p)
+no_number p some none full =
+    Refused (error.NumbersFull p.next) refl
+    (log_test (state_of p) true (can p.active p.frozen some none) refl ∙ ap (λ (o : Option StoreError). first_of (o ∷ [])) (test_yes _ (error.NumbersFull p.next) (le_yes number_end p.next full)))
+    refl
+
+pub froze : (p : PlainStore) → IsPlain p → p.active ≢ 0 → p.frozen ≡ 0 → p.next < number_end
+    → upkeep.Freezes (state_of p) (Ok true) (state_of (record p { active = 0; frozen = p.active; next = p.next + 1 }))
+froze p is some none less =
+    Done true refl
+    (log_test (state_of p) true (can p.active p.frozen some none) refl ∙ ap (λ (o : Option StoreError). first_of (o ∷ [])) (test_no _ (error.NumbersFull p.next) (le_no number_end p.next less)))
+    (can p.active p.frozen some none, record { rest = same_state (upkeep.with_frozen (state_of p)); durable = omega arith; within = is.durable })
+
+-- ---- live files
+
+no_logs : (files : List CutFile) (by : FlushRule) → files ≡ [] → FreeOfLogs by (map (λ (file : CutFile). file.name) files)
+no_logs files rule.Always none = subst (λ (l : List CutFile). All IsNoLog (map (λ (file : CutFile). file.name) l)) (sym none) (All-nil IsNoLog)
+no_logs files rule.Never none = tt
+no_logs files (rule.AtLeast n) none = tt
+
+pub no_live_files : (p : PlainStore) (live : LiveFiles) → IsPlain p → live.sequence ≡ p.sequence → live.manifest_len ≡ 0 → live.files ≡ [] → ListsFiles (state_of p) false (Ok live) (state_of p)
+no_live_files p live is sequence len none =
+    Usual (Done live refl refl (record { flushed = same_state (state_of p); sequence = sequence ∙ is.sequence; manifest_len = len; logs = no_logs live.files rule.Never none }))
+
+pub live_flushed : (p : PlainStore) (live : LiveFiles) → IsPlain p → live.sequence ≡ p.sequence → live.manifest_len ≡ 0 → live.files ≡ []
+    → ListsFiles (state_of p) true (Ok live) (state_of (record p { active = 0; frozen = 0 }))
+live_flushed p live is sequence len none =
+    Usual (Done live refl refl (record { flushed = record { rest = flushed p 0 0 is; active = refl; frozen = refl }; sequence = sequence ∙ is.sequence; manifest_len = len; logs = no_logs live.files rule.Always none }))
+
+-- ---- writes
+
+pub synced : (p : PlainStore) (d : ℕ) → d ≡ length p.accepted.items → SyncsLog (state_of p) (Ok tt) (state_of (record p { durable = d }))
+synced p d is =
+    let P : ℕ → Type 0 = λ n. SyncsLog (state_of p) (Ok tt) (state_of (record p { durable = n })) in
+    subst P (sym is) (Done tt refl refl (same_state (all_durable (state_of p))))
+
+pub sequence_of_two : (start : ℕ) (xs : List (List Op)) (ops : List Op) → sequence_after start (xs ++ ops ∷ []) ≡ sequence_after start xs + length ops
+sequence_of_two start [] ops = refl
+sequence_of_two start (x ∷ xs) ops = sequence_of_two (start + length x) xs ops
+
+pub longer : (xs ys : List (List Op)) (ops : List Op) → ys ≡ xs ++ ops ∷ [] → length ys ≡ length xs + 1
+longer xs ys ops is = ap length is ∙ length-append xs (ops ∷ [])
+
+-- the folders show what they did when a batch comes behind theirs
+folders_stay : (accepted : List (List Op)) (ops : List Op) (folders : List PlainFolder) → All (λ (f : PlainFolder). f.batches ≤ length accepted) folders
+    → map (plain_folder (accepted ++ ops ∷ [])) folders ≡ map (plain_folder accepted) folders
+folders_stay accepted ops [] all = refl
+folders_stay accepted ops (f ∷ folders) all =
+    ap (λ (front : List (List Op)). record { name = f.name; reading = Ok (record { sequence = sequence_after 0 front; contents = replayed finite.empty front }); sure = true } ∷ map (plain_folder (accepted ++ ops ∷ [])) folders) (take-append-le f.batches accepted (ops ∷ []) (all zero f (omega arith)))
+    ∙ ap (λ (l : List FolderRead). plain_folder accepted f ∷ l) (folders_stay accepted ops folders (λ k d less. all (suc k) d (omega (arith, less))))
+
+-- the store with one batch more
+pub written_state : (p q : PlainStore) (ops : List Op) (sync : Bool) (n d : ℕ) → IsPlain p → q.accepted.items ≡ p.accepted.items ++ ops ∷ []
+    → d ≡ cond sync (length p.accepted.items + 1) p.durable
+    → state_of (record p { accepted = q.accepted; sequence = n; durable = d; active = p.active + 1 }) ≡ with_batch ops sync (state_of p)
+written_state p q ops sync n d is more durable =
+    let folders : map (plain_folder q.accepted.items) p.folders.items ≡ map (plain_folder p.accepted.items) p.folders.items
+    = ap (λ (l : List (List Op)). map (plain_folder l) p.folders.items) more ∙ folders_stay p.accepted.items ops p.folders.items is.folders in
+    λ i. record (with_batch ops sync (state_of p)) { accepted = more i; durable = durable i; folders = folders i }
+
+pub wrote : (p q : PlainStore) (ops : List Op) (sync : Bool) (n d : ℕ) → IsPlain p → q.accepted.items ≡ p.accepted.items ++ ops ∷ []
+    → d ≡ cond sync (length p.accepted.items + 1) p.durable → n ≡ p.sequence + length ops → n ≤ last_sequence
+    → Writes (state_of p) ops sync (Ok n) (state_of (record p { accepted = q.accepted; sequence = n; durable = d; active = p.active + 1 }))
+wrote p q ops sync n d is more durable sum fits =
+    let known : first_of (halted (state_of p) ∷ sequence_full (length ops) (state_of p) ∷ []) ≡ None
+    = ap (λ (o : Option StoreError). first_of (o ∷ [])) (test_no _ _ (lt_no last_sequence (last_of (state_of p) + length ops) (omega (arith, sum, fits, is.sequence)))) in
+    let P : State → Type 0 = Writes (state_of p) ops sync (Ok n) in
+    subst P (sym (written_state p q ops sync n d is more durable))
+    (Done n refl known (sum ∙ ap (λ (m : ℕ). m + length ops) is.sequence, same_state (with_batch ops sync (state_of p))))
+
+pub sequence_is_full : (p : PlainStore) (ops : List Op) (sync : Bool) (count : ℕ) → IsPlain p → count ≡ length ops → last_sequence < p.sequence + count
+    → Writes (state_of p) ops sync (Err (error.SequenceFull p.sequence count)) (state_of p)
+sequence_is_full p ops sync count is len full =
+    let same : error.SequenceFull (last_of (state_of p)) (length ops) ≡ error.SequenceFull p.sequence count = λ i. error.SequenceFull (sym is.sequence i) (sym len i) in
+    Refused (error.SequenceFull p.sequence count) refl
+    (ap (λ (o : Option StoreError). first_of (o ∷ [])) (test_yes _ _ (lt_yes last_sequence (last_of (state_of p) + length ops) (omega (arith, len, full, is.sequence))))
+    ∙ ap (λ (e : StoreError). Some e) same)
+    refl
+
+-- what is kept fits the batches still
+pub plain_written : (p q : PlainStore) (ops : List Op) (n d a : ℕ) → IsPlain p → q.accepted.items ≡ p.accepted.items ++ ops ∷ [] → d ≤ length p.accepted.items + 1
+    → n ≡ p.sequence + length ops → n ≤ last_sequence → IsPlain (record p { accepted = q.accepted; sequence = n; durable = d; active = a })
+plain_written p q ops n d a is more durable sum fits =
+    let more_by_one : length q.accepted.items ≡ length p.accepted.items + 1 = longer p.accepted.items q.accepted.items ops more in
+    record {
+      sequence = sum ∙ ap (λ (m : ℕ). m + length ops) is.sequence ∙ sym (sequence_of_two 0 p.accepted.items ops) ∙ ap (sequence_after 0) (sym more);
+      last = fits;
+      durable = omega (arith, more_by_one, durable);
+      few = is.few;
+      pins = λ k pin less. let old = is.pins k pin less in record { front = omega (arith, more_by_one, old.front); none = old.none };
+      folders = λ k f less. let old = is.folders k f less in omega (arith, more_by_one, old);
+    }
+
+-- ---- cuts
+
+pub with_pin_more : (p q : PlainStore) (holder : Holder) (g : ℕ) → q.pins.items ≡ p.pins.items ++ (record { number = p.greatest_pin + 1; batches = length p.accepted.items; files = []; holder = holder }) ∷ []
+    → g ≡ p.greatest_pin + 1 → state_of (record p { pins = q.pins; greatest_pin = g }) ≡ pinned holder [] (state_of p)
+with_pin_more p q holder g more is = λ i. record (state_of p) { pins = more i; greatest_pin = is i }
+
+pub cut_now : (p : PlainStore) (t : State) (by : FlushRule) (cut : Cut) (at : State) → IsPlain p → length p.pins.items < pin_limit → CutsAt by (state_of p) at → t ≡ pinned Caller [] at
+    → cut.pin ≡ p.greatest_pin + 1 → cut.sequence ≡ p.sequence → cut.files ≡ [] → Cuts (state_of p) by (Ok cut) t
+cut_now p t by cut at is room flushes state number sequence none =
+    let known : first_of (halted (state_of p) ∷ pins_full (state_of p) ∷ []) ≡ None
+    = ap (λ (o : Option StoreError). first_of (o ∷ [])) (test_no _ _ (le_no pin_limit (length p.pins.items) room)) in
+    Usual (Done cut refl known (record {
+      at = at;
+      files = [];
+      flushed = flushes;
+      pin = number;
+      sequence = sequence ∙ is.sequence;
+      lists = ap (map listed) none;
+      logs = no_logs cut.files by none;
+      rest = subst (λ (q : State). Becomes (pinned Caller [] at) q) (sym state) (same_state (pinned Caller [] at));
+    }))
+
+-- a cut that takes the rows out of memory
+pub flushed_now : (p : PlainStore) → IsPlain p → IsFlushed (state_of p) (state_of (record p { active = 0; frozen = 0 }))
+flushed_now p is = record { rest = flushed p 0 0 is; active = refl; frozen = refl }
+
+pub no_room : (p : PlainStore) (by : FlushRule) → length p.pins.items ≡ pin_limit → Cuts (state_of p) by (Err (error.PinsFull 64)) (state_of p)
+no_room p by full =
+    Usual (Refused (error.PinsFull 64) refl
+    (ap (λ (o : Option StoreError). first_of (o ∷ [])) (test_yes _ _ (le_yes pin_limit (length p.pins.items) (omega (arith, full)))) ∙ ap (λ (n : ℕ). Some (error.PinsFull n)) full)
+    refl)
+
+pub plain_pinned : (p q : PlainStore) (holder : Holder) (g : ℕ) → IsPlain p → length p.pins.items < pin_limit
+    → q.pins.items ≡ p.pins.items ++ (record { number = p.greatest_pin + 1; batches = length p.accepted.items; files = []; holder = holder }) ∷ []
+    → IsPlain (record p { pins = q.pins; greatest_pin = g })
+plain_pinned p q holder g is room more =
+    let new : Pin = record { number = p.greatest_pin + 1; batches = length p.accepted.items; files = []; holder = holder } in
+    let len : length q.pins.items ≡ length p.pins.items + 1 = ap length more ∙ length-append p.pins.items (new ∷ []) in
+    record {
+      sequence = is.sequence;
+      last = is.last;
+      durable = is.durable;
+      few = omega (arith, len, room);
+      pins = subst (All (IsPlainPin p.accepted.items)) (sym more) (All-push (IsPlainPin p.accepted.items) p.pins.items new is.pins (record { front = omega arith; none = refl }));
+      folders = is.folders;
+    }

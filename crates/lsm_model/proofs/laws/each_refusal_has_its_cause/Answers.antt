@@ -1,0 +1,9 @@
+use Rattle.lsm_model.proofs.KnownLemmas.{known_refuses}
+use Rattle.lsm_model.proofs.RefusalLemmas.{has_cause}
+use Rattle.lsm_model.proofs.laws.each_refusal_has_its_cause.Goals as goal
+
+pub returns-clause-known : goal.returns-clause-known
+returns-clause-known c = known_refuses
+
+pub returns-clause-cause : goal.returns-clause-cause
+returns-clause-cause c = has_cause

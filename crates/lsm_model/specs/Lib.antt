@@ -1,0 +1,16 @@
+pub mod Answers
+pub mod Causes
+pub mod Checkpoints
+pub mod Crashes
+pub mod Destination
+pub mod Moves
+pub mod Pairs
+pub mod Pins
+pub mod Plain
+pub mod Reads
+pub mod Refusals
+pub mod Runs
+pub mod States
+pub mod Steps
+pub mod Upkeep
+pub mod Writes

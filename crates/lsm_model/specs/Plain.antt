@@ -1,0 +1,84 @@
+-- The state that a plain store is.
+use Rattle.std.specs.Prelude.{◌≡◌, ℕ, ◌≤◌, true, List, [], map, take, length, All, None, Ok}
+use Rattle.std.specs.FinMap as finite
+use Rattle.lsm_rows.specs.declared.operations.Op.{Op}
+use Rattle.lsm_rows.specs.Replay.{replayed, sequence_after}
+use Rattle.lsm_model.specs.declared.states.State.{State}
+use Rattle.lsm_model.specs.declared.states.Pin.{Pin}
+use Rattle.lsm_model.specs.declared.states.FolderRead.{FolderRead}
+use Rattle.lsm_model.specs.declared.replies.Shown.{Shown}
+use Rattle.lsm_model.specs.declared.plain.PlainStore.{PlainStore}
+use Rattle.lsm_model.specs.declared.plain.PlainFolder.{PlainFolder}
+use Rattle.lsm_model.specs.Causes.{last_sequence, pin_limit}
+
+-- what the first so many batches show, from nothing
+abbrev pub plain_shown : List (List Op) → ℕ → Shown
+plain_shown accepted count = record { sequence = sequence_after 0 (take count accepted); contents = replayed finite.empty (take count accepted) }
+
+-- a checkpoint's folder: it has a front of the accepted batches, and is sure, since a plain store has no disk that fails
+abbrev pub plain_folder : List (List Op) → PlainFolder → FolderRead
+plain_folder accepted folder = record { name = folder.name; reading = Ok (plain_shown accepted folder.batches); sure = true }
+
+-- the state: it began empty, nothing is doubtful or halted, and there are no tables
+abbrev pub state_of : PlainStore → State
+state_of p = record {
+  own = p.own;
+  opening = finite.empty;
+  began = 0;
+  accepted = p.accepted.items;
+  durable = p.durable;
+  doubtful = None;
+  pins = p.pins.items;
+  greatest_pin = p.greatest_pin;
+  folders = map (plain_folder p.accepted.items) p.folders.items;
+  begun = None;
+  disables = p.disables;
+  active = p.active;
+  frozen = p.frozen;
+  tables = [];
+  merging = None;
+  next = p.next;
+  manifest_len = 0;
+  halt = None;
+  faults = 0;
+  refusals = 0;
+}
+
+-- a new store, where one number is drawn
+abbrev pub empty_state : List ℕ → State
+empty_state own = record {
+  own = own;
+  opening = finite.empty;
+  began = 0;
+  accepted = [];
+  durable = 0;
+  doubtful = None;
+  pins = [];
+  greatest_pin = 0;
+  folders = [];
+  begun = None;
+  disables = 0;
+  active = 0;
+  frozen = 0;
+  tables = [];
+  merging = None;
+  next = 1;
+  manifest_len = 0;
+  halt = None;
+  faults = 0;
+  refusals = 0;
+}
+
+-- a pin of a front of the batches; a plain store has no files
+pub record IsPlainPin (accepted : List (List Op)) (pin : Pin) : Type 0 where
+  pub front : pin.batches ≤ length accepted
+  pub none : pin.files ≡ []
+
+-- what is kept beside the batches fits them
+pub record IsPlain (p : PlainStore) : Type 0 where
+  pub sequence : p.sequence ≡ sequence_after 0 p.accepted.items
+  pub last : p.sequence ≤ last_sequence
+  pub durable : p.durable ≤ length p.accepted.items
+  pub few : length p.pins.items ≤ pin_limit
+  pub pins : All (IsPlainPin p.accepted.items) p.pins.items
+  pub folders : All (λ (folder : PlainFolder). folder.batches ≤ length p.accepted.items) p.folders.items

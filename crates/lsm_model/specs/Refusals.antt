@@ -1,0 +1,89 @@
+-- Why a step is a refusal.
+use Rattle.std.specs.Prelude.{◌≡◌, ◌⊎◌, ℕ, ◌+◌, ◌<◌, ◌≤◌, true, List, [], ◌∷◌, length, Option, Some, None, Result, Ok, Err}
+use Rattle.std.specs.Str.{bytes_eq}
+use Rattle.lsm_io.specs.Causes.{Rose}
+use Rattle.lsm_model.specs.declared.errors.StoreError.{StoreError}
+use Rattle.lsm_model.specs.declared.errors.StoreError.TheVariants as error
+use Rattle.lsm_model.specs.declared.events.Event.{Event}
+use Rattle.lsm_model.specs.declared.events.Event.TheVariants as event
+use Rattle.lsm_model.specs.declared.replies.Reply.{Reply}
+use Rattle.lsm_model.specs.declared.states.State.{State}
+use Rattle.lsm_model.specs.Causes.{first_of, halted, sequence_full, pins_full, disables_full, not_disabled, no_pin, no_own_pin, no_job, not_in_pin, is_taken, number_end, table_limit}
+use Rattle.lsm_model.specs.Upkeep.{can_freeze, no_number_for_log}
+use Rattle.lsm_model.specs.Checkpoints.{begin_refusal}
+use Rattle.lsm_model.specs.Pins.{unpinned}
+use Rattle.lsm_model.specs.Reads.{ReadsAs}
+use Rattle.lsm_model.specs.Steps as answer_of
+
+-- what a store knows against an event before it asks its disk
+abbrev pub known_refusal : Event → State → Option StoreError
+known_refusal (event.Write ops sync) s = first_of (halted s ∷ sequence_full (length ops) s ∷ [])
+known_refusal event.SyncLog s = halted s
+known_refusal event.Freeze s = first_of (halted s ∷ no_number_for_log (can_freeze s) s ∷ [])
+known_refusal event.FlushStep s = halted s
+known_refusal (event.CompactBegin which) s = halted s
+known_refusal (event.CompactStep rows) s = halted s
+known_refusal event.DeleteStep s = halted s
+known_refusal (event.Cut rule) s = first_of (halted s ∷ pins_full s ∷ [])
+known_refusal (event.LiveFiles flush) s = halted s
+known_refusal (event.Unpin pin) s = no_own_pin pin s
+known_refusal event.Disable s = disables_full s
+known_refusal event.Enable s = not_disabled s
+known_refusal (event.CheckpointBegin dir size) s = begin_refusal s dir
+known_refusal (event.CheckpointStep pin) s = first_of (no_job pin s ∷ halted s ∷ [])
+known_refusal (event.CheckpointFinish pin) s = first_of (no_job pin s ∷ halted s ∷ [])
+known_refusal (event.CheckpointStop pin) s = no_job pin s
+known_refusal (event.ShowPin pin) s = no_pin pin s
+known_refusal (event.ReadPinned pin name) s = first_of (no_pin pin s ∷ not_in_pin pin name s ∷ [])
+known_refusal (event.Get key) s = None
+known_refusal event.Scan s = None
+known_refusal event.Last s = None
+known_refusal event.WantsFreeze s = None
+known_refusal (event.Show dir) s = None
+
+-- the refusal that an answer is, if any
+abbrev pub refused : {A : Type 0} → Option (Result A StoreError) → Option StoreError
+refused None = None
+refused (Some (Ok x)) = None
+refused (Some (Err refusal)) = Some refusal
+
+-- the refusal that a reply to an event is, if any
+abbrev pub refusal_in : Event → Reply → Option StoreError
+refusal_in (event.Write ops sync) r = refused (answer_of.to_write r)
+refusal_in event.SyncLog r = refused (answer_of.to_sync_log r)
+refusal_in (event.Get key) r = refused (answer_of.to_get r)
+refusal_in event.Scan r = refused (answer_of.to_scan r)
+refusal_in event.Freeze r = refused (answer_of.to_freeze r)
+refusal_in event.FlushStep r = refused (answer_of.to_flush_step r)
+refusal_in (event.CompactBegin which) r = refused (answer_of.to_compact_begin r)
+refusal_in (event.CompactStep rows) r = refused (answer_of.to_compact_step r)
+refusal_in event.DeleteStep r = refused (answer_of.to_delete_step r)
+refusal_in (event.Cut rule) r = refused (answer_of.to_cut r)
+refusal_in (event.LiveFiles flush) r = refused (answer_of.to_live_files r)
+refusal_in (event.Unpin pin) r = refused (answer_of.to_unpin r)
+refusal_in event.Disable r = refused (answer_of.to_disable r)
+refusal_in event.Enable r = refused (answer_of.to_enable r)
+refusal_in (event.CheckpointBegin dir size) r = refused (answer_of.to_checkpoint_begin r)
+refusal_in (event.CheckpointStep pin) r = refused (answer_of.to_checkpoint_step r)
+refusal_in (event.CheckpointFinish pin) r = refused (answer_of.to_checkpoint_finish r)
+refusal_in (event.CheckpointStop pin) r = refused (answer_of.to_checkpoint_stop r)
+refusal_in (event.Show dir) r = refused (answer_of.to_show r)
+refusal_in (event.ShowPin pin) r = refused (answer_of.to_show_pin r)
+refusal_in (event.ReadPinned pin name) r = refused (answer_of.to_read_pinned r)
+refusal_in event.Last r = None
+refusal_in event.WantsFreeze r = None
+
+-- after such a refusal the state is as it was, but that a finish ends its checkpoint's pin
+abbrev pub Unchanged : Event → State → State → Type 0
+Unchanged (event.CheckpointFinish pin) s t = (t ≡ s) ⊎ (t ≡ unpinned pin s)
+Unchanged other s t = t ≡ s
+
+-- Each refusal has one of these causes, and no other comes.
+pub data HasCause (s : State) (e : Event) (refusal : StoreError) (t : State) : Type 0 where
+  Known : known_refusal e s ≡ Some refusal → HasCause s e refusal t
+  Disk_failed : refusal ≡ error.DiskFault → Rose s.faults t.faults → HasCause s e refusal t
+  Memory_wanting : refusal ≡ error.NoMemory → HasCause s e refusal t
+  Numbers_full : (next : ℕ) → refusal ≡ error.NumbersFull next → number_end ≤ next → HasCause s e refusal t
+  Tables_full : (live adding : ℕ) → refusal ≡ error.TablesFull live adding → table_limit < live + adding → HasCause s e refusal t
+  Name_taken : (dir : List ℕ) → refusal ≡ error.CheckpointExists dir → is_taken dir s ≡ true → HasCause s e refusal t
+  Reads_so : (dir : List ℕ) → e ≡ event.Show dir → ReadsAs s dir (bytes_eq s.own dir) (Err refusal) → HasCause s e refusal t

@@ -1,0 +1,70 @@
+-- What a step, and a run of them, makes of the part of a state that outlives upkeep.
+use Rattle.std.specs.Prelude.{◌≡◌, ℕ, ◌+◌, List, [], ◌∷◌, ◌++◌, length, Option, Some, None, Result, Ok, Err}
+use Rattle.lsm_rows.specs.declared.operations.Op.{Op}
+use Rattle.lsm_rows.specs.Replay.{Contents}
+use Rattle.lsm_model.specs.declared.errors.StoreError.{StoreError}
+use Rattle.lsm_model.specs.declared.events.Event.{Event}
+use Rattle.lsm_model.specs.declared.events.Event.TheVariants as event
+use Rattle.lsm_model.specs.declared.replies.Reply.{Reply}
+use Rattle.lsm_model.specs.declared.states.State.{State}
+use Rattle.lsm_model.specs.declared.states.Pin.{Pin}
+use Rattle.lsm_model.specs.declared.states.PinnedFile.{PinnedFile}
+use Rattle.lsm_model.specs.declared.states.FolderRead.{FolderRead}
+use Rattle.lsm_model.specs.declared.states.Holder.{Holder}
+use Rattle.lsm_model.specs.States.{pin_of, with_pin, without_pin}
+use Rattle.lsm_model.specs.Steps.{to_write}
+
+-- ---- the batches that steps accept
+
+-- the batch, where its write was answered Ok
+abbrev pub where_ok : List Op → Option (Result ℕ StoreError) → List (List Op)
+where_ok ops None = []
+where_ok ops (Some (Ok last)) = ops ∷ []
+where_ok ops (Some (Err refusal)) = []
+
+-- the batch that an event adds by its reply: that of an accepted write
+abbrev pub added_by : Event → Reply → List (List Op)
+added_by (event.Write ops sync) r = where_ok ops (to_write r)
+added_by other r = []
+
+-- the batches of the accepted writes, in their order
+abbrev pub accepted_in : List (Event × Reply) → List (List Op)
+accepted_in [] = []
+accepted_in (step ∷ steps) = added_by step.0 step.1 ++ accepted_in steps
+
+-- ---- the part of a state that upkeep leaves
+
+pub record Core : Type 0 where
+  pub own : List ℕ
+  pub opening : Contents
+  pub began : ℕ
+  pub accepted : List (List Op)
+  pub pins : List Pin
+  pub greatest_pin : ℕ
+  pub folders : List FolderRead
+  pub disables : ℕ
+
+abbrev pub core : State → Core
+core s = record {
+  own = s.own;
+  opening = s.opening;
+  began = s.began;
+  accepted = s.accepted;
+  pins = s.pins;
+  greatest_pin = s.greatest_pin;
+  folders = s.folders;
+  disables = s.disables;
+}
+
+-- How a step moves that part: not at all; by one batch more; by a new pin, or one that is given up again; by a pin less;
+-- by a checkpoint's progress; by a folder more, whose pin ends; or by the count of disables.
+pub data Moves (s t : Core) (batches : List (List Op)) : Type 0 where
+  Same : batches ≡ [] → t ≡ s → Moves s t batches
+  Wrote : (ops : List Op) → batches ≡ ops ∷ [] → t ≡ record s { accepted = s.accepted ++ ops ∷ [] } → Moves s t batches
+  Pinned : (holder : Holder) (files : List PinnedFile) → batches ≡ []
+      → t ≡ record s { pins = s.pins ++ (record { number = s.greatest_pin + 1; batches = length s.accepted; files = files; holder = holder }) ∷ []; greatest_pin = s.greatest_pin + 1 } → Moves s t batches
+  Spent : batches ≡ [] → t ≡ record s { greatest_pin = s.greatest_pin + 1 } → Moves s t batches
+  Unpinned : (number : ℕ) → batches ≡ [] → t ≡ record s { pins = without_pin number s.pins } → Moves s t batches
+  Stepped : (number : ℕ) (pin : Pin) (holder : Holder) → batches ≡ [] → pin_of number s.pins ≡ Some pin → t ≡ record s { pins = with_pin (record pin { holder = holder }) s.pins } → Moves s t batches
+  Published : (number : ℕ) (folder : FolderRead) → batches ≡ [] → t ≡ record s { pins = without_pin number s.pins; folders = s.folders ++ folder ∷ [] } → Moves s t batches
+  Counted : (count : ℕ) → batches ≡ [] → t ≡ record s { disables = count } → Moves s t batches

@@ -1,0 +1,14 @@
+pub mod AheadLemmas
+pub mod AlikeLemmas
+pub mod AssembledLemmas
+pub mod BlockLemmas
+pub mod EditLemmas
+pub mod FreshLemmas
+pub mod KeyLemmas
+pub mod LogLemmas
+pub mod ManifestLemmas
+pub mod OpeningLemmas
+pub mod PlainLemmas
+pub mod SaidLemmas
+pub mod StandingLemmas
+pub mod TableLemmas

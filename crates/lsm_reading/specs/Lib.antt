@@ -1,0 +1,10 @@
+pub mod Blocks
+pub mod Edits
+pub mod Keys
+pub mod Manifests
+pub mod Needed
+pub mod Parts
+pub mod Plain
+pub mod Reading
+pub mod Steps
+pub mod Tables

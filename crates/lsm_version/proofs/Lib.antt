@@ -1,0 +1,13 @@
+pub mod Applied
+pub mod FieldLists
+pub mod Overlaps
+pub mod ReadEdits
+pub mod ReadFields
+pub mod ReadKeys
+pub mod ReadNumbers
+pub mod ReadPlaces
+pub mod ReadSessions
+pub mod ReadTables
+pub mod TableMaps
+pub mod Texts
+pub mod Written

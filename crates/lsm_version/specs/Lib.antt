@@ -1,0 +1,6 @@
+pub mod Decoding
+pub mod EditText
+pub mod Edits
+pub mod Levels
+pub mod Reading
+pub mod Versions

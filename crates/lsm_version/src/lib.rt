@@ -1,0 +1,24 @@
+//! Edits of a version, and the version that they make: which tables are live, and at which levels.
+#![tactic(auto)]
+
+mod decoding;
+#[cfg(test)]
+mod edit_tests;
+mod edits;
+mod encoding;
+mod field_reading;
+mod fields;
+mod laws;
+mod numbers;
+mod refusals;
+mod table_reading;
+mod tables;
+mod version;
+
+pub use decoding::decode_edit;
+pub use edits::{Adds, Edit, Places};
+pub use encoding::encode_edit;
+pub use laws::{a_text_is_of_one_edit, written_edits_are_texts};
+pub use refusals::{ApplyError, EditError};
+pub use tables::{Add, Place, Placed, TableInfo};
+pub use version::Version;
