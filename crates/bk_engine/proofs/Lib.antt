@@ -14,6 +14,7 @@ pub mod StandingBackups
 pub mod StandingRestored
 pub mod StandingKept
 pub mod StandingNames
+pub mod StandingNew
 pub mod Openings
 pub mod OpeningLaws
 pub mod Restorings

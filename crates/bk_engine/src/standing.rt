@@ -1,11 +1,13 @@
 //! Laws of what backups and restored folders stand for: each is the contract of a function that does nothing.
-ghost use Rattle.std.specs.Prelude.{◌≡◌, ◌≢◌, ℕ, ◌≤◌, List, length, All, Option, Some, Ok, IsTrue};
+ghost use Rattle.std.specs.Prelude.{◌≡◌, ◌≢◌, ℕ, ◌<◌, ◌≤◌, List, length, All, Option, Some, None, Ok, IsTrue};
 ghost use Rattle.std.specs.FinMap as finmap;
 ghost use Rattle.lsm_names.specs.FileNames.{IsFileName};
 ghost use Rattle.lsm_names.specs.Paths.{is_component};
 ghost use Rattle.lsm_rows.specs.declared.operations.Op.{Op};
 ghost use Rattle.lsm_rows.specs.Replay.{Contents, replayed, sequence_after};
-ghost use Rattle.lsm_disk.specs.State.{State, Story, Change, after, state_of};
+ghost use Rattle.lsm_disk.specs.Names.{stands};
+ghost use Rattle.lsm_disk.specs.State.{State, Story, Change, after, state_of, names_now};
+ghost use Rattle.lsm_disk.specs.Tree.{IsLawful};
 ghost use Rattle.lsm_disk.specs.Images.{Tree, IsImage, tree_now};
 ghost use Rattle.lsm_disk.specs.Goes.{Went};
 ghost use Rattle.lsm_disk.specs.Kept.{InFile};
@@ -98,4 +100,11 @@ pub fn no_name_of_a_file_comes()
     ensures folder { (dir other : List ℕ) (story : Story) (told : Option Story) (id first : ℕ) → IsTrue (is_component dir) → IsTrue (is_component other) → other ≢ dir
         → HasNoNameOf dir (state_of story) id → Went story told (IsWithin other first) Anything Whatever
         → Went story told (IsWithin other first) Anything (λ s. HasNoNameOf dir s id) }
+{}
+
+/// While a folder is built whose name was free, no name at it or in it leads to an older file.
+pub fn a_new_folder_has_new_files()
+    ensures { (dir : List ℕ) (story : Story) (told : Option Story) → IsLawful (state_of story) → stands (names_now (state_of story)) dir ≡ None
+        → Went story told (IsWithin dir (length (state_of story).files)) Anything Whatever
+        → Went story told (IsWithin dir (length (state_of story).files)) Anything (λ s. (id : ℕ) → id < length (state_of story).files → HasNoNameOf dir s id) }
 {}

@@ -19,7 +19,7 @@ use Rattle.bk_meta.specs.BackupFiles.{file_at}
 use Rattle.bk_meta.specs.Metas.{IsMeta, is_whole, is_current, is_manifest, are_different, shared_numbers}
 use Rattle.bk_restore.specs.declared.errors.RestoreError.{RestoreError}
 use Rattle.bk_restore.specs.declared.errors.RestoreError.TheVariants.{DiskFault, DestFault, Halted, DestinationExists, Missing, Changed, WrongSize, Damaged, NoMemory}
-use Rattle.bk_restore.specs.Refusals.{dest_answer}
+use Rattle.bk_restore.specs.Refusals.{IsPastBegin, dest_answer}
 use Rattle.bk_restore.specs.Wrong.{others, currents}
 use Rattle.bk_restore.specs.Hands.{Builds}
 use Rattle.bk_restore.specs.Restored.{AreRestored, AreMetaFiles, begun_with, MayHaveEnded, EndsBy, MayHaveRestored, LeavesBy, BeginsBy}
@@ -79,48 +79,48 @@ module _ (meta : Meta) (told : Option Story) (start : State) (folder : List ℕ)
   unbegun : (e : RestoreError) (s : State) → BeginsBy start folder (Err e) s → LeavesBy meta told start folder (Err e) s
   unbegun DiskFault s is = inl is
   unbegun DestFault s is = tt
-  unbegun (Halted first) s is = inl is
-  unbegun (DestinationExists dir) s is = inl is
+  unbegun (Halted first) s is = is
+  unbegun (DestinationExists dir) s is = is
   unbegun (Missing name) s is = inl is
   unbegun (Changed call path) s is = inl is
   unbegun (WrongSize name kept found) s is = inl is
   unbegun (Damaged name kept found) s is = inl is
   unbegun NoMemory s is = inl is
 
-  unrestored : (e : RestoreError) (s : State) → IsUnfinished start folder s → LeavesBy meta told start folder (Err e) s
-  unrestored DiskFault s is = inr is
-  unrestored DestFault s is = tt
-  unrestored (Halted first) s is = inr is
-  unrestored (DestinationExists dir) s is = inr is
-  unrestored (Missing name) s is = inr is
-  unrestored (Changed call path) s is = inr is
-  unrestored (WrongSize name kept found) s is = inr is
-  unrestored (Damaged name kept found) s is = inr is
-  unrestored NoMemory s is = inr is
+  unrestored : (e : RestoreError) (s : State) → IsPastBegin e → IsUnfinished start folder s → LeavesBy meta told start folder (Err e) s
+  unrestored DiskFault s past is = inr is
+  unrestored DestFault s past is = tt
+  unrestored (Halted first) s past is = absurd past
+  unrestored (DestinationExists dir) s past is = absurd past
+  unrestored (Missing name) s past is = inr is
+  unrestored (Changed call path) s past is = inr is
+  unrestored (WrongSize name kept found) s past is = inr is
+  unrestored (Damaged name kept found) s past is = inr is
+  unrestored NoMemory s past is = inr is
 
   module _ {story : Story} {now : Option Story} where
     pub begin_leaves : (e : RestoreError) → Builds start folder story now (BeginsBy start folder (Err e)) → Restored story now (Err e)
     begin_leaves e w = went_weaker (BeginsBy start folder (Err e)) (LeavesBy meta told start folder (Err e)) (unbegun e) (wider w)
 
-    pub others_leave : {mid : Option Story} (e : RestoreError) → Builds start folder story mid (IsBuilding start (just_begun folder) [])
+    pub others_leave : {mid : Option Story} (e : RestoreError) → IsPastBegin e → Builds start folder story mid (IsBuilding start (just_begun folder) [])
         → ((next : Story) → mid ≡ Some next → IsBuilding start (just_begun folder) [] (state_of next) → Builds start folder next now (IsUnfinished start folder)) → Restored story now (Err e)
-    others_leave e w next = went_weaker (IsUnfinished start folder) (LeavesBy meta told start folder (Err e)) (unrestored e) (wider (went_then w next))
+    others_leave e past w next = went_weaker (IsUnfinished start folder) (LeavesBy meta told start folder (Err e)) (λ s is. unrestored e s past is) (wider (went_then w next))
 
   module _ (parts : List Part) (restored : AreRestored meta.id told (others meta.id meta.files) parts) where
     whole_shown : (s : State) (t : Tree) → MayHaveEnded meta.id told (currents meta.id meta.files) start folder parts s t → MayHaveRestored meta told start folder s t
     whole_shown s t h = ⊎_elim (λ lacks. inl lacks)
         (λ whole. inr (whole.0 ∷ parts, restored_both meta.id told (currents meta.id meta.files) (others meta.id meta.files) (whole.0 ∷ []) parts whole.1 restored, whole.2)) h
 
-    ended : (e : RestoreError) (s : State) → EndsBy meta.id told (currents meta.id meta.files) start folder parts (Err e) s → LeavesBy meta told start folder (Err e) s
-    ended DiskFault s is = inr is
-    ended DestFault s is = tt
-    ended (Halted first) s is = inr is
-    ended (DestinationExists dir) s is = inr is
-    ended (Missing name) s is = inr is
-    ended (Changed call path) s is = inr is
-    ended (WrongSize name kept found) s is = inr is
-    ended (Damaged name kept found) s is = inr is
-    ended NoMemory s is = inr is
+    ended : (e : RestoreError) (s : State) → IsPastBegin e → EndsBy meta.id told (currents meta.id meta.files) start folder parts (Err e) s → LeavesBy meta told start folder (Err e) s
+    ended DiskFault s past is = inr is
+    ended DestFault s past is = tt
+    ended (Halted first) s past is = absurd past
+    ended (DestinationExists dir) s past is = absurd past
+    ended (Missing name) s past is = inr is
+    ended (Changed call path) s past is = inr is
+    ended (WrongSize name kept found) s past is = inr is
+    ended (Damaged name kept found) s past is = inr is
+    ended NoMemory s past is = inr is
 
     whole_built : (sequence : ℕ) (s : State) → EndsBy meta.id told (currents meta.id meta.files) start folder parts (Ok tt) s → LeavesBy meta told start folder (Ok sequence) s
     whole_built sequence s h = (h.0 ∷ parts, restored_both meta.id told (currents meta.id meta.files) (others meta.id meta.files) (h.0 ∷ []) parts h.1 restored, h.2)
@@ -137,8 +137,8 @@ module _ (meta : Meta) (told : Option Story) (start : State) (folder : List ℕ)
           → Went story now (IsWithin folder (length start.files)) (MayHaveRestored meta told start folder) (EndsBy meta.id told (currents meta.id meta.files) start folder parts r)
       all_of r next = went_then (wider w) (λ n tells building. wider_end r (next n tells building))
 
-      pub current_leaves : (e : RestoreError) → ((next : Story) → mid ≡ Some next → IsBuilding start (begun_with folder parts) parts (state_of next) → Ends next now (Err e)) → Restored story now (Err e)
-      current_leaves e next = went_weaker (EndsBy meta.id told (currents meta.id meta.files) start folder parts (Err e)) (LeavesBy meta told start folder (Err e)) (ended e) (all_of (Err e) next)
+      pub current_leaves : (e : RestoreError) → IsPastBegin e → ((next : Story) → mid ≡ Some next → IsBuilding start (begun_with folder parts) parts (state_of next) → Ends next now (Err e)) → Restored story now (Err e)
+      current_leaves e past next = went_weaker (EndsBy meta.id told (currents meta.id meta.files) start folder parts (Err e)) (LeavesBy meta told start folder (Err e)) (λ s ends. ended e s past ends) (all_of (Err e) next)
 
       pub all_restored : (sequence : ℕ) → ((next : Story) → mid ≡ Some next → IsBuilding start (begun_with folder parts) parts (state_of next) → Ends next now (Ok tt)) → Restored story now (Ok sequence)
       all_restored sequence next = went_weaker (EndsBy meta.id told (currents meta.id meta.files) start folder parts (Ok tt)) (LeavesBy meta told start folder (Ok sequence)) (whole_built sequence) (all_of (Ok tt) next)

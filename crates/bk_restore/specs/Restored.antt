@@ -82,6 +82,8 @@ MayHaveRestored meta told start folder s t = LacksCurrent start folder t.names �
 abbrev pub LeavesBy : Meta → Option Story → State → List ℕ → Result ℕ RestoreError → State → Type 0
 LeavesBy meta told start folder (Ok sequence) s = (whole : List Part) × IsFolderOf meta told whole × IsBuilt folder whole s
 LeavesBy meta told start folder (Err DestFault) s = Unit {0}
+LeavesBy meta told start folder (Err (Halted first)) s = s ≡ start
+LeavesBy meta told start folder (Err (DestinationExists dir)) s = s ≡ start
 LeavesBy meta told start folder (Err e) s = (s ≡ start) ⊎ IsUnfinished start folder s
 
 -- the folder is begun, or all is as it was

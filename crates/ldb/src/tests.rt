@@ -9,13 +9,14 @@ use std::process::Abort;
 use std::test::Fail;
 use std::thread::Threads;
 
-// Runs a script over these objects. It gives the status and the store's disk.
+// Runs a script over these objects. The clock tells 1000 and 500, and fails then. It gives the status, the store's disk and
+// the backups'.
 fn run<R: AllocGlobal + Threads + Sync>(
     rt: &R,
     source: &mut MemSource,
     sink: &mut MemSink,
     disk: MemDisk,
-) -> Result<(u8, MemDisk), Fail> {
+) -> Result<(u8, MemDisk, MemDisk), Fail> {
     let words = vec![in rt.alloc(); String::from_str(rt.alloc(), "script")?]?;
     let done = ldb(
         rt,
@@ -26,9 +27,12 @@ fn run<R: AllocGlobal + Threads + Sync>(
         disk,
         MemDisk::new(rt.alloc(), true)?,
         &mut ListSessions::new(Vec::new(rt.alloc()), Vec::new(rt.alloc())),
-        &mut ListClock::new(Vec::new(rt.alloc()), Vec::new(rt.alloc())),
+        &mut ListClock::new(
+            Vec::from_slice(rt.alloc(), &[1000, 500])?,
+            Vec::new(rt.alloc()),
+        ),
     );
-    Ok((done.status, done.store_disk))
+    Ok((done.status, done.store_disk, done.backup_disk))
 }
 
 // Checks what a script over a new disk prints, and its status.
@@ -40,13 +44,13 @@ fn prints<R: Abort + AllocGlobal + Threads + Sync>(
 ) -> Result<(), Fail> {
     let mut source = MemSource::new(Vec::from_slice(rt.alloc(), script)?, Vec::new(rt.alloc()));
     let mut sink = MemSink::new(rt.alloc(), Vec::new(rt.alloc()));
-    let (given, _) = run(rt, &mut source, &mut sink, MemDisk::new(rt.alloc(), true)?)?;
+    let (given, _, _) = run(rt, &mut source, &mut sink, MemDisk::new(rt.alloc(), true)?)?;
     assert_eq!(rt; sink.bytes(), printed.as_bytes());
     assert_eq!(rt; given, status);
     Ok(())
 }
 
-const SCRIPTS: [(&str, &str, u8); 32] = [
+const SCRIPTS: [(&str, &str, u8); 45] = [
     ("", "", 0),
     ("m put a 1\nm get a\n", "seq 1\nvalue 1\n", 0),
     ("m put a 1", "seq 1\n", 0),
@@ -119,6 +123,43 @@ const SCRIPTS: [(&str, &str, u8); 32] = [
     ("m del a b\n", "bad line 1\n", 2),
     ("m durable get a\n", "bad line 1\n", 2),
     ("m sync now\n", "bad line 1\n", 2),
+    ("m show dir\n", "bad line 1\n", 2),
+    ("m show dir R\n", "bad line 1\n", 2),
+    ("m backup\n", "bad line 1\n", 2),
+    ("m backup list 1\n", "bad line 1\n", 2),
+    ("m backup restore 0 r\n", "bad line 1\n", 2),
+    ("m backup restore 01 r\n", "bad line 1\n", 2),
+    ("m backup restore 4294967296 r\n", "bad line 1\n", 2),
+    (
+        "m put a 1\nm backup create\nm put a 2\nm backup restore 1 r\nm show dir r\n",
+        "seq 1\nbackup 1 seq 1\nseq 2\nrestored 1 r\nseq 1\na 1\nend 1\n",
+        0,
+    ),
+    (
+        "m put b x:20\nm show dir db\nm show dir none\n",
+        "seq 1\nseq 1\nb x:20\nend 1\nrefused NoFolder none\n",
+        0,
+    ),
+    (
+        "m backup list\nm backup create\nm put a 1\nm backup create\nm backup list\n",
+        "end 0\nbackup 1 seq 0\nseq 1\nbackup 2 seq 1\n1 1000 0 x:\n2 500 1 x:\nend 2\n",
+        0,
+    ),
+    (
+        "m backup create\nm backup create\nm backup create\nm state\n",
+        "backup 1 seq 0\nbackup 2 seq 0\nclock fault\n",
+        7,
+    ),
+    (
+        "m backup create\nm backup restore 1 r\nm backup restore 1 r\nm backup restore 1 db\n",
+        "backup 1 seq 0\nrestored 1 r\nrefused DestinationExists r\nrefused DestinationExists db\n",
+        0,
+    ),
+    (
+        "m backup restore 3 r\nm backup restore 1 db\nm show dir r\n",
+        "refused NoSuchBackup 3\nrefused NoSuchBackup 1\nrefused NoFolder r\n",
+        0,
+    ),
 ];
 
 #[test]
@@ -193,7 +234,7 @@ fn a_fault_ends_the_run(rt: HostRuntime) -> Result<(), Fail> {
         if fails > 0 {
             disk.fail_at(fails, Effect::Nothing)?;
         }
-        let (given, _) = run(&rt, &mut source, &mut sink, disk)?;
+        let (given, _, _) = run(&rt, &mut source, &mut sink, disk)?;
         assert_eq!(rt; sink.bytes(), printed.as_bytes());
         assert_eq!(rt; given, status);
     }
@@ -204,9 +245,15 @@ fn a_fault_ends_the_run(rt: HostRuntime) -> Result<(), Fail> {
 fn an_empty_script_leaves_a_new_store(rt: HostRuntime) -> Result<(), Fail> {
     let mut source = MemSource::new(Vec::new(rt.alloc()), Vec::new(rt.alloc()));
     let mut sink = MemSink::new(rt.alloc(), Vec::new(rt.alloc()));
-    let (status, mut disk) = run(&rt, &mut source, &mut sink, MemDisk::new(rt.alloc(), true)?)?;
+    let (status, mut disk, mut backups) = run(
+        &rt,
+        &mut source,
+        &mut sink,
+        MemDisk::new(rt.alloc(), true)?,
+    )?;
     assert_eq!(rt; status, 0);
     assert!(rt; sink.bytes().is_empty());
+    assert_eq!(rt; backups.kind(&Path::parse(b"meta")?), Ok(None));
     for (name, bytes) in [
         ("db/CURRENT", b"MANIFEST-000001\n".as_slice()),
         (
@@ -234,7 +281,7 @@ fn a_put_is_answered_and_in_the_log(rt: HostRuntime) -> Result<(), Fail> {
         Vec::new(rt.alloc()),
     );
     let mut sink = MemSink::new(rt.alloc(), Vec::new(rt.alloc()));
-    let (status, mut disk) = run(&rt, &mut source, &mut sink, MemDisk::new(rt.alloc(), true)?)?;
+    let (status, mut disk, _) = run(&rt, &mut source, &mut sink, MemDisk::new(rt.alloc(), true)?)?;
     assert_eq!(rt; status, 0);
     assert_eq!(rt; sink.bytes(), b"seq 1\n".as_slice());
     let log = Path::parse(b"db/000002.log")?;
@@ -262,7 +309,7 @@ fn a_crash_leaves_each_durable_write(rt: HostRuntime) -> Result<(), Fail> {
         Vec::new(rt.alloc()),
     );
     let mut sink = MemSink::new(rt.alloc(), Vec::new(rt.alloc()));
-    let (status, disk) = run(&rt, &mut source, &mut sink, MemDisk::new(rt.alloc(), true)?)?;
+    let (status, disk, _) = run(&rt, &mut source, &mut sink, MemDisk::new(rt.alloc(), true)?)?;
     assert_eq!(rt; status, 2);
     let log = Path::parse(b"db/000002.log")?;
     let mut found = [false; 25];
@@ -290,8 +337,8 @@ fn a_folder_that_is_there_is_refused(rt: HostRuntime) -> Result<(), Fail> {
         Vec::new(rt.alloc()),
     );
     let mut sink = MemSink::new(rt.alloc(), Vec::new(rt.alloc()));
-    let (first, disk) = run(&rt, &mut source, &mut sink, MemDisk::new(rt.alloc(), true)?)?;
-    let (second, _) = run(&rt, &mut source, &mut sink, disk)?;
+    let (first, disk, _) = run(&rt, &mut source, &mut sink, MemDisk::new(rt.alloc(), true)?)?;
+    let (second, _, _) = run(&rt, &mut source, &mut sink, disk)?;
     assert_eq!(rt; (first, second), (0, 6));
     assert_eq!(rt; sink.bytes(), b"none\nrefused Found db\n".as_slice());
     Ok(())

@@ -1,6 +1,6 @@
 //! The top call: what the program does with its words, its input and its disks.
 ghost use Rattle.std.specs.Prelude.{◌≡◌, ◌↔◌, IsTrue, codes};
-ghost use Rattle.ldb_script.specs.Run.{Met, met, IsRun};
+ghost use Rattle.ldb_script.specs.Run.{Met, stream, met, IsRun};
 ghost use Rattle.ldb.specs.Words.{IsScript, IsUnused};
 
 use ldb_script::{Done, run_script, say};
@@ -23,10 +23,10 @@ fn is_script(words: &[String]) -> bool
 }
 
 /// Does what the words ask for. The one command yet is `script`: it runs the script that the source gives, over a new
-/// store in the folder `db` of the store's disk.
+/// store in the folder `db` of the store's disk, with backups on a disk of their own.
 ///
-/// Statuses: 0 finished, 1 usage, 2 a bad line, 3 the source failed, 4 the sink failed, 5 the store's disk failed,
-/// 6 refused, 8 want of memory. All text goes to the sink. The backups' disk is handed back as it was.
+/// Statuses: 0 finished, 1 usage, 2 a bad line, 3 the source failed, 4 the sink failed, 5 a disk failed, 6 refused,
+/// 7 the clock failed, 8 want of memory. All text goes to the sink.
 pub fn ldb<R: Threads + Sync, S: Source, K: Sink, D: Disk, B: Disk, N: Sessions, C: Clock>(
     rt: &R,
     alloc: Global,
@@ -40,12 +40,10 @@ pub fn ldb<R: Threads + Sync, S: Source, K: Sink, D: Disk, B: Disk, N: Sessions,
 ) -> Done<D, B>
     // Status 1 comes exactly where the words are not `script` alone, and then nothing is read or changed.
     ensures usage { (result.status ≡ 1) ↔ ¬ IsScript words.now }
-    ensures unused { result.status ≡ 1 → IsUnused (met S.left S.faults K.taken K.faults source.old source.new sink.old sink.new (D.seen store_disk) (D.seen result.store_disk)) }
+    ensures unused { result.status ≡ 1 → IsUnused (met (stream S.left S.faults source.old) (stream S.left S.faults source.new) (stream K.taken K.faults sink.old) (stream K.taken K.faults sink.new) (D.seen store_disk) (D.seen result.store_disk) (B.seen backup_disk) (B.seen result.backup_disk) (stream C.left C.faults clock.old) (stream C.left C.faults clock.new)) }
 
     // What each other status says.
-    ensures run { IsScript words.now → IsRun (codes "db") (met S.left S.faults K.taken K.faults source.old source.new sink.old sink.new (D.seen store_disk) (D.seen result.store_disk)) result.status }
-
-    ensures backup { result.backup_disk ≡ backup_disk }
+    ensures run { IsScript words.now → IsRun (codes "db") (met (stream S.left S.faults source.old) (stream S.left S.faults source.new) (stream K.taken K.faults sink.old) (stream K.taken K.faults sink.new) (D.seen store_disk) (D.seen result.store_disk) (B.seen backup_disk) (B.seen result.backup_disk) (stream C.left C.faults clock.old) (stream C.left C.faults clock.new)) result.status }
 {
     if !is_script(words) {
         let status = say(sink, USAGE.as_bytes(), 1);

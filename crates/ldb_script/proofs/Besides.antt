@@ -79,7 +79,7 @@ module _ (s : State) (log path bytes : List ℕ) (b : IsBeside s log path bytes)
       let all : bytes_of (whole_file bytes) ≡ bytes = append-nil bytes in
       held.is ∙ ap (λ (l : List ℕ). Some l) (front.is ∙ take_all front.count (bytes_of (whole_file bytes)) (omega (arith, ap length all, front.enough)) ∙ all)
 
-  beside_now : bytes_at (tree_now s) path ≡ Some bytes
+  pub beside_now : bytes_at (tree_now s) path ≡ Some bytes
   beside_now = beside_image (tree_now s) (reads_image s)
 
 beside_keeps : (told : Option Story) (story : Story) (log path bytes : List ℕ) → told ≡ Some story → IsBeside (state_of story) log path bytes → Keeps told path bytes

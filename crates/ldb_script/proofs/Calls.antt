@@ -8,10 +8,10 @@ use Rattle.lsm_disk.specs.Refusals.{no_file, no_room}
 use Rattle.lsm_disk.specs.Answers.{Makes, RefusesBy}
 use Rattle.lsm_disk.specs.declared.calls.DiskError.{DiskError}
 use Rattle.ldb_script.specs.Stored.{manifest_path, first_manifest}
-use Rattle.ldb_script.specs.Filling.{IsFreeFolder, AddsFile, HasManifest}
+use Rattle.ldb_script.specs.Filling.{IsFreeFolder, AddsFile, Fills, HasManifest}
 use Rattle.ldb_script.specs.Opening.{Leads}
 use Rattle.ldb_script.proofs.Telling.{Tells, told_now, told_more, told_step, refuses_none, leads_told}
-use Rattle.ldb_script.proofs.Folders.{made, filled, synced, made_there, filled_there, adds, IsEmptyFolder, empty_folder, has_manifest}
+use Rattle.ldb_script.proofs.Folders.{made, filled, synced, made_there, filled_there, adds, IsEmptyFolder, empty_folder, empty_elsewhere, has_manifest, manifest_elsewhere}
 
 -- ---- a new file
 
@@ -41,14 +41,23 @@ module _ (path bytes : List ℕ) (story : Story) {o0 o1 : Option Story} (tells :
 
 -- ---- the folder and its manifest
 
-pub told_folder : (folder : List ℕ) {o0 o1 : Option Story} → parent_of folder ≡ [] → IfSome o0 (λ x. IsLawful (state_of x)) → Makes o0 (folder_made folder) o1 → (story : Story) → o0 ≡ Some story → IsFreeFolder folder (state_of story) → Tells o1 (IsEmptyFolder folder)
+-- the empty folder, and outside it all as it was
+abbrev pub EmptyIn : List ℕ → State → State → Type 0
+EmptyIn folder old new = Fills folder (IsEmptyFolder folder) old new
+
+pub told_folder : (folder : List ℕ) {o0 o1 : Option Story} → parent_of folder ≡ [] → IfSome o0 (λ x. IsLawful (state_of x)) → Makes o0 (folder_made folder) o1 → (story : Story) → o0 ≡ Some story → IsFreeFolder folder (state_of story) → Tells o1 (EmptyIn folder (state_of story))
 told_folder folder {o0} {o1} root lawful makes story tells free =
     let law : IsLawful (state_of story) = subst (λ (o : Option Story). IfSome o (λ x. IsLawful (state_of x))) tells lawful in
-    told_step (folder_made folder) (λ s. s ≡ state_of story) (IsEmptyFolder folder)
-    (λ s is. subst (λ (x : State). IsEmptyFolder folder (after x (folder_made folder x))) (sym is) (empty_folder folder (state_of story) root law free)) makes (told_now o0 story tells)
+    told_step (folder_made folder) (λ s. s ≡ state_of story) (EmptyIn folder (state_of story))
+    (λ s is. subst (λ (x : State). EmptyIn folder (state_of story) (after x (folder_made folder x))) (sym is)
+    (record { has = empty_folder folder (state_of story) root law free; elsewhere = empty_elsewhere folder (state_of story) })) makes (told_now o0 story tells)
 
-pub told_manifest : (folder : List ℕ) {o1 o2 : Option Story} → Leads (λ s. no_room (manifest_path folder) s ≡ None) (AddsFile (manifest_path folder) first_manifest) o1 o2 → ((s : State) → IsEmptyFolder folder s → no_room (manifest_path folder) s ≡ None)
-    → Tells o1 (IsEmptyFolder folder) → Tells o2 (HasManifest folder)
-told_manifest folder {o1} {o2} leads fits t =
-    told_more (AddsFile (manifest_path folder) first_manifest (state_of t.story)) (HasManifest folder) (λ s added. has_manifest folder (state_of t.story) s t.holds added)
-    (leads_told (λ s. no_room (manifest_path folder) s ≡ None) (AddsFile (manifest_path folder) first_manifest) o1 o2 leads (record { story = t.story; tells = t.tells; holds = fits (state_of t.story) t.holds }))
+pub told_manifest : (folder : List ℕ) (old : State) {o1 o2 : Option Story} → Leads (λ s. no_room (manifest_path folder) s ≡ None) (AddsFile (manifest_path folder) first_manifest) o1 o2 → ((s : State) → IsEmptyFolder folder s → no_room (manifest_path folder) s ≡ None)
+    → Tells o1 (EmptyIn folder old) → Tells o2 (Fills folder (HasManifest folder) old)
+told_manifest folder old {o1} {o2} leads fits t =
+    told_more (AddsFile (manifest_path folder) first_manifest (state_of t.story)) (Fills folder (HasManifest folder) old)
+    (λ s added. record {
+      has = has_manifest folder (state_of t.story) s t.holds.has added;
+      elsewhere = λ path out. manifest_elsewhere folder (state_of t.story) s added path out ∙ t.holds.elsewhere path out;
+    })
+    (leads_told (λ s. no_room (manifest_path folder) s ≡ None) (AddsFile (manifest_path folder) first_manifest) o1 o2 leads (record { story = t.story; tells = t.tells; holds = fits (state_of t.story) t.holds.has }))

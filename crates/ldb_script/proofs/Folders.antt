@@ -1,34 +1,38 @@
 -- The folder of a new store, as an opening fills it.
-use Rattle.std.specs.Prelude.{◌≡◌, ◌≢◌, ◌⊎◌, ℕ, zero, suc, ◌+◌, ◌<◌, cond, List, [], ◌∷◌, ◌++◌, length, slice_get, Option, Some, None, is_some, codes}
+use Rattle.std.specs.Prelude.{◌≡◌, ◌≢◌, ◌⊎◌, ℕ, zero, suc, ◌+◌, ◌<◌, cond, true, false, All, List, [], ◌∷◌, ◌++◌, length, slice_get, Option, Some, None, is_some, codes}
 use Rattle.std.proofs.Common.{inl, inr, ⊎_elim, refl, sym, ap, subst, ◌∙◌, arith, append-nil, length-append}
+use Rattle.std.proofs.lemmas.List.Elements.{All-cons, All-head, All-nil, All-tail}
 use Rattle.std.specs.FinMap as map
+use Rattle.std.specs.Cmp.Lexicographic.{nat_list_cmp_total}
 use Rattle.std.specs.Fmt.{digits}
 use Rattle.lsm_names.specs.Paths.{or_root, parent_of}
 use Rattle.lsm_names.specs.FileNames.{spelled}
 use Rattle.lsm_names.specs.Numbers.{padded_decimal}
 use Rattle.lsm_names.specs.declared.file_names.FileName.TheVariants.{Log, Manifest, Temp, Current}
-use Rattle.lsm_disk.specs.Names.{Node, Folder_node, File_node, NameOp, Put, Gone, Moved, Names, all_named, stands, is_folder, is_folder_node, under}
+use Rattle.lsm_disk.specs.Names.{Node, Folder_node, File_node, NameOp, Put, Gone, Moved, Names, named, renamed, all_named, stands, is_folder, is_folder_node, is_in, under}
 use Rattle.lsm_disk.specs.State.{FileState, State, Story, Change, Created, Named, Appended, Synced, Names_synced, Idle, names_now, after, after_all, state_of, new_file, longer, sure, folder_made, appended, file_synced}
 use Rattle.lsm_disk.specs.Images.{Tree}
-use Rattle.lsm_disk.specs.Goes.{Each, Went}
+use Rattle.lsm_disk.specs.Goes.{Each, GoesOn, Went}
+use Rattle.lsm_disk.specs.Building.{IsWithin}
 use Rattle.lsm_disk.specs.Kept.{IsFileNow, IsKeptFile, OpSpares, SparesName, Spares, InFile, Making}
 use Rattle.lsm_disk.specs.Tree.{IsLawful}
-use Rattle.lsm_disk.specs.Refusals.{no_room, no_room_in, no_file, or_else}
-use Rattle.lsm_disk.specs.declared.calls.DiskError.{DiskError}
+use Rattle.lsm_disk.specs.Refusals.{no_room, no_room_in, no_file, no_rename, no_move_in}
 use Rattle.lsm_disk.specs.declared.calls.DiskError.TheVariants.{NotThere, Exists}
 use Rattle.lsm_disk.proofs.Tree.{cut_append, made_free, lawful_created, lawful_folder_made, lawful_appended}
 use Rattle.lsm_disk.proofs.Lawful.{lawful_synced}
 use Rattle.lsm_disk.proofs.Cuts.{take_none}
-use Rattle.lsm_disk.proofs.Paths.{get_put_other, get_spared, itself}
+use Rattle.lsm_disk.proofs.Paths.{get_put_other, get_gone_other, get_spared, itself, path_cases, path_itself}
+use Rattle.lsm_disk.proofs.Built.{within_spares_name}
 use Rattle.lsm_disk.proofs.Files.{get_before, get_other}
 use Rattle.lsm_disk.proofs.Images.{all_push}
-use Rattle.lsm_disk.proofs.Named.{created_now, now_at, now_appended, now_synced, appends_in_now, syncs_in_now}
-use Rattle.lsm_disk.proofs.Now.{names_after, folder_made_stands, stands_past_file}
+use Rattle.lsm_disk.proofs.Named.{created_now, now_at, name_now, now_appended, now_synced, appends_in_now, syncs_in_now}
+use Rattle.lsm_disk.proofs.Now.{names_after, folder_made_stands, stands_past_folder, stands_past_file}
 use Rattle.lsm_disk.proofs.Kept.{kept_spared}
-use Rattle.lsm_disk.proofs.Runs.{goes_state}
-use Rattle.lsm_publish.specs.Publishing.{IsMove, Publishes, IsPublished, no_place, no_publishing}
+use Rattle.lsm_disk.proofs.Runs.{goes_state, kept_goes}
+use Rattle.lsm_dest.proofs.Places.{inside_folder, folder_itself}
+use Rattle.lsm_publish.specs.Publishing.{Not_known, HasOld, HasOldOrNew, IsMove, Writes, Switches, IsReady, IsPublished}
 use Rattle.ldb_script.specs.Stored.{log_path, manifest_path, current_path, temporary_path, first_manifest, first_current, whole_file}
-use Rattle.ldb_script.specs.Filling.{IsFreeFolder, AddsFile, HasManifest, HasCurrent}
+use Rattle.ldb_script.specs.Filling.{IsFreeFolder, AddsFile, Fills, HasOnly, HasManifest, HasTemporary, HasCurrent}
 
 -- ---- names
 
@@ -70,6 +74,11 @@ apart_in (c ∷ folder) a b ne is = apart_in folder a b ne (tail is) where
 -- and none is its folder
 pub folder_apart : (folder : List ℕ) (c : ℕ) (rest : List ℕ) → folder ≢ folder ++ c ∷ rest
 folder_apart folder c rest is = let long : length (folder ++ c ∷ rest) ≡ length folder + length (c ∷ rest) = length-append folder (c ∷ rest) in absurd (omega (arith, ap length is, long))
+
+pub joined_apart : (folder a b : List ℕ) → a ≢ b → folder ++ 47 ∷ a ≢ folder ++ 47 ∷ b
+joined_apart folder a b ne = apart_in folder (47 ∷ a) (47 ∷ b) (λ is. ne (tail is)) where
+  tail : 47 ∷ a ≡ 47 ∷ b → a ≡ b
+  tail e = cc
 
 under_in : (folder a b : List ℕ) → under (folder ++ a) (folder ++ b) ≡ under a b
 under_in [] a b = refl
@@ -203,34 +212,146 @@ module _ (path : List ℕ) (id : ℕ) (f : FileState) where
         (λ was. ⊎_elim (λ kept. inl kept) (λ later. inr (later.0, later.1 ∙ was.1)) (now_through cs (after s c) each.1 was.0))
         (once s c (spares c each.0) now)
 
--- a publication spares what its rename spares, but for its own file
-module _ (temporary path other : List ℕ) (id : ℕ) where
-  move_spares : (op : NameOp) → OpSpares other (Moved temporary path) → IsMove temporary path op → OpSpares other op
-  move_spares (Put p node) spares is = absurd is
-  move_spares (Gone p) spares is = absurd is
-  move_spares (Moved from to) spares is = subst (λ (f : List ℕ). OpSpares other (Moved f to)) (sym is.0) (subst (λ (t : List ℕ). OpSpares other (Moved temporary t)) (sym is.1) spares)
+-- the changes of a run spare a name
+pub name_goes : {a z : Story} {P : State → Tree → Type 0} (path : List ℕ) (q : Change → Type 0) → ((c : Change) → q c → SparesName path c) → GoesOn a z q P → map.get (names_now (state_of z)) path ≡ map.get (names_now (state_of a)) path
+name_goes {a = a} path q spares g = ap (λ (s : State). map.get (names_now s) path) (goes_state g) ∙ names_through path q spares g.more (state_of a) g.kind
 
-  pub publishing_spares_name : (c : Change) → OpSpares other (Moved temporary path) → Publishes temporary path id c → SparesName other c
-  publishing_spares_name (Created p) spares (inl is) = λ same. spares.0 (same ∙ is)
-  publishing_spares_name (Created p) spares (inr is) = absurd is
-  publishing_spares_name (Named op) spares (inl is) = absurd is
-  publishing_spares_name (Named op) spares (inr is) = move_spares op spares is
-  publishing_spares_name (Appended k bytes) spares is = tt
-  publishing_spares_name (Synced k) spares is = tt
-  publishing_spares_name Names_synced spares is = tt
-  publishing_spares_name Idle spares is = tt
+pub stands_same : (new old : Names) (path : List ℕ) → map.get new path ≡ map.get old path → stands new path ≡ stands old path
+stands_same new old [] e = refl
+stands_same new old (c ∷ path) e = e
 
-  pub publishing_spares : (k : ℕ) (c : Change) → OpSpares other (Moved temporary path) → k ≢ id → Publishes temporary path id c → Spares other k c
-  publishing_spares k (Created p) spares ne (inl is) = λ same. spares.0 (same ∙ is)
-  publishing_spares k (Created p) spares ne (inr is) = absurd is
-  publishing_spares k (Named op) spares ne (inl is) = absurd is
-  publishing_spares k (Named op) spares ne (inr is) = move_spares op spares is
-  publishing_spares k (Appended j bytes) spares ne (inl is) = λ same. ne (same ∙ is)
-  publishing_spares k (Appended j bytes) spares ne (inr is) = absurd is
-  publishing_spares k (Synced j) spares ne (inl is) = λ same. ne (same ∙ is)
-  publishing_spares k (Synced j) spares ne (inr is) = absurd is
-  publishing_spares k Names_synced spares ne is = tt
-  publishing_spares k Idle spares ne is = tt
+-- and each name that is not in the folder
+pub elsewhere_goes : {a z : Story} {P : State → Tree → Type 0} (folder : List ℕ) (q : Change → Type 0) → ((c : Change) → q c → IsWithin folder 0 c) → GoesOn a z q P → (path : List ℕ) → is_in folder path ≡ false → stands (names_now (state_of z)) path ≡ stands (names_now (state_of a)) path
+elsewhere_goes {a = a} {z = z} folder q within g path out = stands_same (names_now (state_of z)) (names_now (state_of a)) path (name_goes path q (λ c is. within_spares_name folder path 0 c (within c is) out) g)
+
+-- a writing spares each other name, and each other file
+module _ (temporary : List ℕ) (id : ℕ) where
+  pub writing_spares_name : (other : List ℕ) (c : Change) → other ≢ temporary → Writes temporary id c → SparesName other c
+  writing_spares_name other (Created p) ne is = λ same. ne (same ∙ is)
+  writing_spares_name other (Named op) ne is = absurd is
+  writing_spares_name other (Appended k bytes) ne is = tt
+  writing_spares_name other (Synced k) ne is = tt
+  writing_spares_name other Names_synced ne is = tt
+  writing_spares_name other Idle ne is = tt
+
+  pub writing_spares : (other : List ℕ) (k : ℕ) (c : Change) → other ≢ temporary → k ≢ id → Writes temporary id c → Spares other k c
+  writing_spares other k (Created p) ne apart is = λ same. ne (same ∙ is)
+  writing_spares other k (Named op) ne apart is = absurd is
+  writing_spares other k (Appended j bytes) ne apart is = λ same. apart (same ∙ is)
+  writing_spares other k (Synced j) ne apart is = λ same. apart (same ∙ is)
+  writing_spares other k Names_synced ne apart is = tt
+  writing_spares other k Idle ne apart is = tt
+
+  pub writing_within : (folder : List ℕ) (c : Change) → is_in folder temporary ≡ true → Writes temporary id c → IsWithin folder 0 c
+  writing_within folder (Created p) inside is = ap (is_in folder) is ∙ inside
+  writing_within folder (Named op) inside is = absurd is
+  writing_within folder (Appended k bytes) inside is = omega arith
+  writing_within folder (Synced k) inside is = omega arith
+  writing_within folder Names_synced inside is = tt
+  writing_within folder Idle inside is = tt
+
+-- a switch spares what its rename spares, and each file
+module _ (temporary path : List ℕ) where
+  move_spares : (other : List ℕ) (op : NameOp) → OpSpares other (Moved temporary path) → IsMove temporary path op → OpSpares other op
+  move_spares other (Put p node) spares is = absurd is
+  move_spares other (Gone p) spares is = absurd is
+  move_spares other (Moved from to) spares is = subst (λ (f : List ℕ). OpSpares other (Moved f to)) (sym is.0) (subst (λ (t : List ℕ). OpSpares other (Moved temporary t)) (sym is.1) spares)
+
+  pub switching_spares_name : (other : List ℕ) (c : Change) → OpSpares other (Moved temporary path) → Switches temporary path c → SparesName other c
+  switching_spares_name other (Created p) spares is = absurd is
+  switching_spares_name other (Named op) spares is = move_spares other op spares is
+  switching_spares_name other (Appended k bytes) spares is = absurd is
+  switching_spares_name other (Synced k) spares is = absurd is
+  switching_spares_name other Names_synced spares is = tt
+  switching_spares_name other Idle spares is = tt
+
+  pub switching_spares : (other : List ℕ) (k : ℕ) (c : Change) → OpSpares other (Moved temporary path) → Switches temporary path c → Spares other k c
+  switching_spares other k (Created p) spares is = absurd is
+  switching_spares other k (Named op) spares is = move_spares other op spares is
+  switching_spares other k (Appended j bytes) spares is = absurd is
+  switching_spares other k (Synced j) spares is = absurd is
+  switching_spares other k Names_synced spares is = tt
+  switching_spares other k Idle spares is = tt
+
+  pub switching_within : (folder : List ℕ) (c : Change) → is_in folder temporary ≡ true → is_in folder path ≡ true → Switches temporary path c → IsWithin folder 0 c
+  switching_within folder (Created p) from to is = absurd is
+  switching_within folder (Named (Put p node)) from to is = absurd is
+  switching_within folder (Named (Gone p)) from to is = absurd is
+  switching_within folder (Named (Moved f t)) from to is = (ap (is_in folder) is.0 ∙ from, ap (is_in folder) is.1 ∙ to)
+  switching_within folder (Appended k bytes) from to is = absurd is
+  switching_within folder (Synced k) from to is = absurd is
+  switching_within folder Names_synced from to is = tt
+  switching_within folder Idle from to is = tt
+
+  -- the temporary name leads to a file and the other one to nothing, or the file was moved
+  abbrev MayHaveMoved : Names → Type 0
+  MayHaveMoved names = ((id : ℕ) × (map.get names temporary ≡ Some (File_node id)) × (map.get names path ≡ None)) ⊎ (map.get names temporary ≡ None)
+
+  moved_once : (apart : temporary ≢ path) (names : Names) → MayHaveMoved names → map.get (named (Moved temporary path) names) temporary ≡ None
+  moved_once apart names (inl is) =
+      ap (λ (o : Option Node). map.get (renamed temporary path o names) temporary) is.1
+      ∙ get_put_other (map.remove names temporary) temporary path (File_node is.0) apart
+      ∙ map.get-remove nat_list_cmp_total names temporary temporary ∙ ap (λ b. cond b None (map.get names temporary)) (path_itself temporary)
+  moved_once apart names (inr none) = ap (λ (o : Option Node). map.get (renamed temporary path o names) temporary) none ∙ none
+
+  module _ (other : List ℕ) (from_ne : other ≢ temporary) (to_ne : other ≢ path) where
+    -- a third name leads where it led
+    other_once : (names : Names) → MayHaveMoved names → map.get (named (Moved temporary path) names) other ≡ map.get names other
+    other_once names (inl is) =
+        ap (λ (o : Option Node). map.get (renamed temporary path o names) other) is.1
+        ∙ get_put_other (map.remove names temporary) other path (File_node is.0) to_ne ∙ get_gone_other names other temporary from_ne
+    other_once names (inr none) = ap (λ (o : Option Node). map.get (renamed temporary path o names) other) none
+
+    other_is : (s : State) (from to : List ℕ) → from ≡ temporary → to ≡ path → MayHaveMoved (names_now s) → map.get (names_now (after s (Named (Moved from to)))) other ≡ map.get (names_now s) other
+    other_is s from to from_is to_is m =
+        ap (λ (n : Names). map.get n other) (names_after s (Moved from to))
+        ∙ (λ i. map.get (named (Moved (from_is i) (to_is i)) (names_now s)) other) ∙ other_once (names_now s) m
+
+    other_step : (s : State) (c : Change) → Switches temporary path c → MayHaveMoved (names_now s) → map.get (names_now (after s c)) other ≡ map.get (names_now s) other
+    other_step s (Created p) is m = absurd is
+    other_step s (Named (Put p node)) is m = absurd is
+    other_step s (Named (Gone p)) is m = absurd is
+    other_step s (Named (Moved from to)) is m = other_is s from to is.0 is.1 m
+    other_step s (Appended k bytes) is m = absurd is
+    other_step s (Synced k) is m = absurd is
+    other_step s Names_synced is m = refl
+    other_step s Idle is m = refl
+
+  move_is : (s : State) (from to : List ℕ) → temporary ≢ path → from ≡ temporary → to ≡ path → MayHaveMoved (names_now s) → MayHaveMoved (names_now (after s (Named (Moved from to))))
+  move_is s from to apart from_is to_is m =
+      subst (λ (f : List ℕ). MayHaveMoved (names_now (after s (Named (Moved f to))))) (sym from_is)
+      (subst (λ (t : List ℕ). MayHaveMoved (names_now (after s (Named (Moved temporary t))))) (sym to_is)
+      (inr (ap (λ (n : Names). map.get n temporary) (names_after s (Moved temporary path)) ∙ moved_once apart (names_now s) m)))
+
+  may_move : (s : State) (c : Change) → temporary ≢ path → Switches temporary path c → MayHaveMoved (names_now s) → MayHaveMoved (names_now (after s c))
+  may_move s (Created p) apart is m = absurd is
+  may_move s (Named (Put p node)) apart is m = absurd is
+  may_move s (Named (Gone p)) apart is m = absurd is
+  may_move s (Named (Moved from to)) apart is m = move_is s from to apart is.0 is.1 m
+  may_move s (Appended k bytes) apart is m = absurd is
+  may_move s (Synced k) apart is m = absurd is
+  may_move s Names_synced apart is m = m
+  may_move s Idle apart is m = m
+
+  may_move_all : (cs : List Change) (s : State) → temporary ≢ path → Each (Switches temporary path) cs → MayHaveMoved (names_now s) → MayHaveMoved (names_now (after_all cs s))
+  may_move_all [] s apart each m = m
+  may_move_all (c ∷ cs) s apart each m = may_move_all cs (after s c) apart each.1 (may_move s c apart each.0 m)
+
+  others_all : (other : List ℕ) → temporary ≢ path → other ≢ temporary → other ≢ path → (cs : List Change) (s : State) → Each (Switches temporary path) cs → MayHaveMoved (names_now s) → map.get (names_now (after_all cs s)) other ≡ map.get (names_now s) other
+  others_all other apart from to [] s each m = refl
+  others_all other apart from to (c ∷ cs) s each m = others_all other apart from to cs (after s c) each.1 (may_move s c apart each.0 m) ∙ other_step other from to s c each.0 m
+
+  pub unmoved : {a z : Story} {P : State → Tree → Type 0} (other : List ℕ) (id : ℕ) → temporary ≢ path → other ≢ temporary → other ≢ path → map.get (names_now (state_of a)) temporary ≡ Some (File_node id) → map.get (names_now (state_of a)) path ≡ None → GoesOn a z (Switches temporary path) P
+      → map.get (names_now (state_of z)) other ≡ map.get (names_now (state_of a)) other
+  unmoved {a = a} other id apart from to leads free g = ap (λ (s : State). map.get (names_now s) other) (goes_state g) ∙ others_all other apart from to g.more (state_of a) g.kind (inl (id, leads, free))
+
+  -- so where the other name leads to a file in the end, the temporary one leads to nothing
+  pub moved : {a z : Story} {P : State → Tree → Type 0} (id k : ℕ) → temporary ≢ path → map.get (names_now (state_of a)) temporary ≡ Some (File_node id) → map.get (names_now (state_of a)) path ≡ None → GoesOn a z (Switches temporary path) P
+      → map.get (names_now (state_of z)) path ≡ Some (File_node k) → map.get (names_now (state_of z)) temporary ≡ None
+  moved {a = a} {z = z} id k apart leads free g now = ⊎_elim (λ is. absurd (clash is.2)) (λ none. none)
+      (subst (λ (s : State). MayHaveMoved (names_now s)) (sym (goes_state g)) (may_move_all g.more (state_of a) apart g.kind (inl (id, leads, free)))) where
+        clash : map.get (names_now (state_of z)) path ≡ None → ⊥
+        clash none = let both : None ≡ Some (File_node k) = sym none ∙ now in cc
 
 -- ---- the folder and its manifest
 
@@ -280,26 +401,95 @@ has_manifest folder old new e adds = record {
   folder_stands = adds.names folder (folder_apart folder 47 (codes "MANIFEST-000001")) ∙ e.folder_stands;
   id = adds.id;
   manifest = adds.now;
-  temporary = adds.names (temporary_path folder) (other_way (manifest_path folder) (temporary_path folder) (manifest_temporary folder)) ∙ e.free (codes "000001.dbtmp");
-  current = adds.names (current_path folder) (other_way (manifest_path folder) (current_path folder) (manifest_current folder)) ∙ e.free (codes "CURRENT");
-  log = adds.names (log_path folder) (other_way (manifest_path folder) (log_path folder) (manifest_log folder)) ∙ e.free (codes "000002.log");
+  only = λ name others.
+      let other : folder ++ 47 ∷ name ≢ manifest_path folder = joined_apart folder name (codes "MANIFEST-000001") (All-head (λ (own : List ℕ). name ≢ own) (codes "MANIFEST-000001") [] others) in
+      get_in (names_now new) folder 47 name ∙ adds.names (folder ++ 47 ∷ name) other ∙ e.free name;
 }
 
--- ---- the publication of CURRENT
+-- outside the folder nothing has changed
+pub empty_elsewhere : (folder : List ℕ) (s : State) (path : List ℕ) → is_in folder path ≡ false → stands (names_now (after s (folder_made folder s))) path ≡ stands (names_now s) path
+empty_elsewhere folder s path out = stands_past_folder s path folder (λ same. let clash : true ≡ false = sym (folder_itself folder) ∙ sym (ap (is_in folder) same) ∙ out in cc)
+
+pub manifest_elsewhere : (folder : List ℕ) (old new : State) → AddsFile (manifest_path folder) first_manifest old new → (path : List ℕ) → is_in folder path ≡ false → stands (names_now new) path ≡ stands (names_now old) path
+manifest_elsewhere folder old new adds path out = adds.names path (λ same. let clash : true ≡ false = sym (inside_folder folder (codes "MANIFEST-000001")) ∙ sym (ap (is_in folder) same) ∙ out in cc)
+
+-- a name that is not among these two
+pub neither : (name a b : List ℕ) → name ≢ a → name ≢ b → All (λ (own : List ℕ). name ≢ own) (a ∷ b ∷ [])
+neither name a b first second = All-cons (λ (own : List ℕ). name ≢ own) a (b ∷ []) first (All-cons (λ (own : List ℕ). name ≢ own) b [] second (All-nil (λ (own : List ℕ). name ≢ own)))
+
+pub one_of : (name a : List ℕ) → name ≢ a → All (λ (own : List ℕ). name ≢ own) (a ∷ [])
+one_of name a first = All-cons (λ (own : List ℕ). name ≢ own) a [] first (All-nil (λ (own : List ℕ). name ≢ own))
+
+-- ---- CURRENT under its temporary name
 
 pub temporary_room : (folder : List ℕ) (s : State) → HasManifest folder s → no_room (temporary_path folder) s ≡ None
-temporary_room folder s h = room (names_now s) (temporary_path folder) folder (parent_temporary folder) h.folder_stands h.temporary
+temporary_room folder s h = room (names_now s) (temporary_path folder) folder (parent_temporary folder) h.folder_stands
+    (sym (get_in (names_now s) folder 47 (codes "000001.dbtmp")) ∙ h.only (codes "000001.dbtmp") (one_of (codes "000001.dbtmp") (codes "MANIFEST-000001") (λ e. cc)))
 
--- a file may take the name
-current_place : (folder : List ℕ) (s : State) → HasManifest folder s → no_place (current_path folder) s ≡ None
-current_place folder s h =
+module _ (folder : List ℕ) (story : Story) {told : Option Story} (h : HasManifest folder (state_of story))
+    (w : Went story told (Writes (temporary_path folder) (length (state_of story).files)) (HasOld (current_path folder) Not_known) (IsReady (temporary_path folder) (current_path folder) Not_known (length (state_of story).files) first_current)) where
+  abbrev first : ℕ
+  first = length (state_of story).files
+
+  abbrev z : State
+  z = after_all w.goes.more (state_of story)
+
+  z_is : state_of w.story ≡ z
+  z_is = goes_state w.goes
+
+  -- the new file had no durable name before
+  renewed : z.durable ≢ (state_of story).durable
+  renewed same =
+      let named : IsKeptFile z (temporary_path folder) (length (state_of story).files) (whole_file first_current) = subst (λ (x : State). IsKeptFile x (temporary_path folder) (length (state_of story).files) (whole_file first_current)) z_is w.now.new in
+      let lt : length (state_of story).files < length (state_of story).files = (h.lawful.files 0).made (temporary_path folder) (length (state_of story).files) (ap (λ (n : Names). map.get n (temporary_path folder)) (sym same) ∙ named.named 0) in
+      absurd (omega (arith, lt))
+
+  manifest_kept : IsKeptFile z (manifest_path folder) h.id (whole_file first_manifest)
+  manifest_kept = ⊎_elim (λ kept. kept) (λ was. absurd (renewed was.1))
+      (now_through (manifest_path folder) h.id (whole_file first_manifest) (Writes (temporary_path folder) (length (state_of story).files))
+      (λ c is. writing_spares (temporary_path folder) (length (state_of story).files) (manifest_path folder) h.id c (manifest_temporary folder) other is)
+      w.goes.more (state_of story) w.goes.kind h.manifest)
+    where
+      other : h.id ≢ length (state_of story).files
+      other same = absurd (omega (arith, within (state_of story).files h.id (whole_file first_manifest) h.manifest.file, same))
+
+  stays_written : (path : List ℕ) → path ≢ temporary_path folder → map.get (names_now (state_of w.story)) path ≡ map.get (names_now (state_of story)) path
+  stays_written path ne = name_goes path (Writes (temporary_path folder) (length (state_of story).files)) (λ c is. writing_spares_name (temporary_path folder) (length (state_of story).files) path c ne is) w.goes
+
+  pub has_temporary : Fills folder (HasTemporary folder) (state_of story) (state_of w.story)
+  has_temporary = record {
+    has = record {
+      folder_stands = stands_same (names_now (state_of w.story)) (names_now (state_of story)) folder (stays_written folder (folder_apart folder 47 (codes "000001.dbtmp"))) ∙ h.folder_stands;
+      manifest_id = h.id;
+      manifest = subst (λ (x : State). IsKeptFile x (manifest_path folder) h.id (whole_file first_manifest)) (sym z_is) manifest_kept;
+      id = length (state_of story).files;
+      ready = w.now;
+      only = λ name others.
+          let manifest = All-head (λ (own : List ℕ). name ≢ own) (codes "MANIFEST-000001") (codes "000001.dbtmp" ∷ []) others in
+          let temporary = All-head (λ (own : List ℕ). name ≢ own) (codes "000001.dbtmp") [] (All-tail (λ (own : List ℕ). name ≢ own) (codes "MANIFEST-000001") (codes "000001.dbtmp" ∷ []) others) in
+          stays_written (folder ++ 47 ∷ name) (joined_apart folder name (codes "000001.dbtmp") temporary) ∙ h.only name (one_of name (codes "MANIFEST-000001") manifest);
+    };
+    elsewhere = elsewhere_goes folder (Writes (temporary_path folder) (length (state_of story).files))
+        (λ c is. writing_within (temporary_path folder) (length (state_of story).files) folder c (inside_folder folder (codes "000001.dbtmp")) is) w.goes;
+  }
+
+-- ---- CURRENT under its name
+
+-- nothing stands in the name's place
+current_free : (folder : List ℕ) (s : State) → HasTemporary folder s → map.get (names_now s) (current_path folder) ≡ None
+current_free folder s h = h.only (codes "CURRENT") (neither (codes "CURRENT") (codes "MANIFEST-000001") (codes "000001.dbtmp") (λ e. cc) (λ e. cc))
+
+temporary_leads : (folder : List ℕ) (s : State) → (h : HasTemporary folder s) → map.get (names_now s) (temporary_path folder) ≡ Some (File_node h.id)
+temporary_leads folder s h = name_now s (temporary_path folder) (Some (File_node h.id)) h.ready.new.named
+
+-- so the file may take it
+pub may_switch : (folder : List ℕ) (s : State) → HasTemporary folder s → no_rename (temporary_path folder) (current_path folder) s ≡ None
+may_switch folder s h =
     let names : Names = names_now s in
-    ap (λ (d : List ℕ). cond (is_folder names d) (cond (is_folder names (current_path folder)) (Some Exists) None) (Some NotThere)) (parent_current folder)
+    ap (no_move_in (temporary_path folder) (current_path folder) names) (sym (get_in names folder 47 (codes "000001.dbtmp")) ∙ temporary_leads folder s h)
+    ∙ ap (λ (d : List ℕ). cond (is_folder names d) (cond (is_folder names (current_path folder)) (Some Exists) None) (Some NotThere)) (parent_current folder)
     ∙ ap (λ (o : Option Node). cond (is_folder_node o) (cond (is_folder names (current_path folder)) (Some Exists) None) (Some NotThere)) h.folder_stands
-    ∙ ap (λ (o : Option Node). cond (is_folder_node o) (Some Exists) None) h.current
-
-pub may_publish : (folder : List ℕ) (s : State) → HasManifest folder s → no_publishing (temporary_path folder) (current_path folder) s ≡ None
-may_publish folder s h = ap (λ (o : Option DiskError). or_else o (no_place (current_path folder) s)) (temporary_room folder s h) ∙ current_place folder s h
+    ∙ ap (λ (o : Option Node). cond (is_folder_node o) (Some Exists) None) (sym (get_in names folder 47 (codes "CURRENT")) ∙ current_free folder s h)
 
 -- the rename spares these names
 folder_spares : (folder : List ℕ) → OpSpares folder (Moved (temporary_path folder) (current_path folder))
@@ -313,65 +503,45 @@ manifest_spares folder = (
   under_in folder (47 ∷ codes "CURRENT") (47 ∷ codes "MANIFEST-000001"),
 )
 
-log_spares : (folder : List ℕ) → OpSpares (log_path folder) (Moved (temporary_path folder) (current_path folder))
-log_spares folder = (
-  other_way (temporary_path folder) (log_path folder) (temporary_log folder),
-  other_way (current_path folder) (log_path folder) (current_log folder),
-  under_in folder (47 ∷ codes "000001.dbtmp") (47 ∷ codes "000002.log"),
-  under_in folder (47 ∷ codes "CURRENT") (47 ∷ codes "000002.log"),
-)
+module _ (folder : List ℕ) (story : Story) {told : Option Story} (h : HasTemporary folder (state_of story))
+    (w : Went story told (Switches (temporary_path folder) (current_path folder)) (HasOldOrNew (current_path folder) Not_known first_current) (IsPublished (current_path folder) h.id first_current)) where
+  stays_switched : (path : List ℕ) → path ≢ temporary_path folder → path ≢ current_path folder → map.get (names_now (state_of w.story)) path ≡ map.get (names_now (state_of story)) path
+  stays_switched path from to =
+      unmoved (temporary_path folder) (current_path folder) path h.id (temporary_current folder) from to (temporary_leads folder (state_of story) h) (current_free folder (state_of story) h) w.goes
 
-module _ (folder : List ℕ) (story : Story) {told : Option Story} {P : State → Tree → Type 0} (h : HasManifest folder (state_of story))
-    (w : Went story told (Publishes (temporary_path folder) (current_path folder) (length (state_of story).files)) P (IsPublished (current_path folder) (length (state_of story).files) first_current)) where
-  abbrev s : State
-  s = state_of story
+  temporary_gone : map.get (names_now (state_of w.story)) (temporary_path folder) ≡ None
+  temporary_gone = moved (temporary_path folder) (current_path folder) h.id h.id (temporary_current folder) (temporary_leads folder (state_of story) h) (current_free folder (state_of story) h) w.goes
+      (name_now (state_of w.story) (current_path folder) (Some (File_node h.id)) w.now.named)
 
-  abbrev z : State
-  z = after_all w.goes.more (state_of story)
+  switched_only : HasOnly (codes "MANIFEST-000001" ∷ codes "CURRENT" ∷ []) folder (state_of w.story)
+  switched_only name others =
+      let manifest = All-head (λ (own : List ℕ). name ≢ own) (codes "MANIFEST-000001") (codes "CURRENT" ∷ []) others in
+      let current = All-head (λ (own : List ℕ). name ≢ own) (codes "CURRENT") [] (All-tail (λ (own : List ℕ). name ≢ own) (codes "MANIFEST-000001") (codes "CURRENT" ∷ []) others) in
+      ⊎_elim (λ same. ap (λ (n : List ℕ). map.get (names_now (state_of w.story)) (folder ++ 47 ∷ n)) same ∙ temporary_gone)
+      (λ ne. stays_switched (folder ++ 47 ∷ name) (joined_apart folder name (codes "000001.dbtmp") ne) (joined_apart folder name (codes "CURRENT") current)
+      ∙ h.only name (neither name (codes "MANIFEST-000001") (codes "000001.dbtmp") manifest ne))
+      (path_cases name (codes "000001.dbtmp"))
 
-  z_is : state_of w.story ≡ z
-  z_is = goes_state w.goes
+  pub has_current : Fills folder (HasCurrent folder) (state_of story) (state_of w.story)
+  has_current = record {
+    has = record {
+      folder_stands = stands_same (names_now (state_of w.story)) (names_now (state_of story)) folder (stays_switched folder (folder_apart folder 47 (codes "000001.dbtmp")) (folder_apart folder 47 (codes "CURRENT"))) ∙ h.folder_stands;
+      manifest_id = h.manifest_id;
+      manifest = kept_goes (manifest_path folder) h.manifest_id (whole_file first_manifest) (Switches (temporary_path folder) (current_path folder))
+          (λ c is. switching_spares (temporary_path folder) (current_path folder) (manifest_path folder) h.manifest_id c (manifest_spares folder) is) w.goes h.manifest;
+      current_id = h.id;
+      current = w.now;
+      only = switched_only;
+    };
+    elsewhere = elsewhere_goes folder (Switches (temporary_path folder) (current_path folder))
+        (λ c is. switching_within (temporary_path folder) (current_path folder) folder c (inside_folder folder (codes "000001.dbtmp")) (inside_folder folder (codes "CURRENT")) is) w.goes;
+  }
 
-  published : IsKeptFile z (current_path folder) (length (state_of story).files) (whole_file first_current)
-  published = subst (λ (x : State). IsKeptFile x (current_path folder) (length (state_of story).files) (whole_file first_current)) z_is w.now
-
-  -- the new file had no durable name before
-  renewed : z.durable ≢ (state_of story).durable
-  renewed same =
-      let lt : length (state_of story).files < length (state_of story).files = (h.lawful.files 0).made (current_path folder) (length (state_of story).files) (ap (λ (n : Names). map.get n (current_path folder)) (sym same) ∙ published.named 0) in
-      absurd (omega (arith, lt))
-
-  manifest_kept : IsKeptFile z (manifest_path folder) h.id (whole_file first_manifest)
-  manifest_kept = ⊎_elim (λ kept. kept) (λ was. absurd (renewed was.1))
-      (now_through (manifest_path folder) h.id (whole_file first_manifest) (Publishes (temporary_path folder) (current_path folder) (length (state_of story).files))
-      (λ c is. publishing_spares (temporary_path folder) (current_path folder) (manifest_path folder) (length (state_of story).files) h.id c (manifest_spares folder) other is)
-      w.goes.more (state_of story) w.goes.kind h.manifest)
-    where
-      other : h.id ≢ length (state_of story).files
-      other same = absurd (omega (arith, within (state_of story).files h.id (whole_file first_manifest) h.manifest.file, same))
-
-  stays_now : (path : List ℕ) → OpSpares path (Moved (temporary_path folder) (current_path folder)) → map.get (names_now z) path ≡ map.get (names_now (state_of story)) path
-  stays_now path spares = names_through path (Publishes (temporary_path folder) (current_path folder) (length (state_of story).files))
-      (λ c is. publishing_spares_name (temporary_path folder) (current_path folder) path (length (state_of story).files) c spares is) w.goes.more (state_of story) w.goes.kind
-
-  folder_stays : stands (names_now z) folder ≡ stands (names_now (state_of story)) folder
-  folder_stays = by_name folder (stays_now folder (folder_spares folder)) where
-    by_name : (path : List ℕ) → map.get (names_now z) path ≡ map.get (names_now (state_of story)) path → stands (names_now z) path ≡ stands (names_now (state_of story)) path
-    by_name [] e = refl
-    by_name (c ∷ path) e = e
-
-  pub has_current : HasCurrent folder (state_of w.story)
-  has_current = subst (HasCurrent folder) (sym z_is) (record {
-    folder_stands = folder_stays ∙ h.folder_stands;
-    manifest_id = h.id;
-    manifest = manifest_kept;
-    current_id = length (state_of story).files;
-    current = published;
-    log = sym (get_in (names_now z) folder 47 (codes "000002.log")) ∙ stays_now (log_path folder) (log_spares folder) ∙ get_in (names_now (state_of story)) folder 47 (codes "000002.log") ∙ h.log;
-  })
+-- ---- the log
 
 pub log_room : (folder : List ℕ) (s : State) → HasCurrent folder s → no_room (log_path folder) s ≡ None
-log_room folder s h = room (names_now s) (log_path folder) folder (parent_log folder) h.folder_stands h.log
+log_room folder s h = room (names_now s) (log_path folder) folder (parent_log folder) h.folder_stands
+    (sym (get_in (names_now s) folder 47 (codes "000002.log")) ∙ h.only (codes "000002.log") (neither (codes "000002.log") (codes "MANIFEST-000001") (codes "CURRENT") (λ e. cc) (λ e. cc)))
 
 -- making the log spares the other two
 pub making_spares : (path other : List ℕ) (id : ℕ) (c : Change) → other ≢ path → Making path c → Spares other id c
@@ -381,6 +551,22 @@ making_spares path other id (Appended k bytes) ne is = absurd is
 making_spares path other id (Synced k) ne is = absurd is
 making_spares path other id Names_synced ne is = tt
 making_spares path other id Idle ne is = tt
+
+pub making_spares_name : (path other : List ℕ) (c : Change) → other ≢ path → Making path c → SparesName other c
+making_spares_name path other (Created p) ne is = λ same. ne (same ∙ is)
+making_spares_name path other (Named op) ne is = absurd is
+making_spares_name path other (Appended k bytes) ne is = absurd is
+making_spares_name path other (Synced k) ne is = absurd is
+making_spares_name path other Names_synced ne is = tt
+making_spares_name path other Idle ne is = tt
+
+pub making_within : (folder path : List ℕ) (c : Change) → is_in folder path ≡ true → Making path c → IsWithin folder 0 c
+making_within folder path (Created p) inside is = ap (is_in folder) is ∙ inside
+making_within folder path (Named op) inside is = absurd is
+making_within folder path (Appended k bytes) inside is = absurd is
+making_within folder path (Synced k) inside is = absurd is
+making_within folder path Names_synced inside is = tt
+making_within folder path Idle inside is = tt
 
 pub manifest_not_log : (folder : List ℕ) → manifest_path folder ≢ log_path folder
 manifest_not_log = manifest_log

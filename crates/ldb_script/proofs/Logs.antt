@@ -1,11 +1,12 @@
 -- A log grows by one accepted batch, and is made sure.
-use Rattle.std.specs.Prelude.{◌≡◌, ℕ, ◌+◌, ◌%◌, ◌≤◌, Bool, true, false, if◌then◌else◌, List, [], ◌∷◌, ◌++◌, length, Option, Some, None, option_map, Ok}
+use Rattle.std.specs.Prelude.{◌≡◌, ℕ, ◌+◌, ◌%◌, ◌≤◌, Bool, true, false, if◌then◌else◌, List, [], ◌∷◌, ◌++◌, length, Option, Some, None, IsTrue, option_map, Ok}
 use Rattle.std.proofs.Common.{refl, sym, ap, subst, ◌∙◌, arith, length-append}
 use Rattle.std.proofs.lemmas.List.{append-nil, take_all}
 use Rattle.std.specs.List.{fold}
 use Rattle.lsm_rows.specs.declared.operations.Op.{Op}
 use Rattle.lsm_rows.specs.BatchText.{batch_text}
-use Rattle.lsm_rows.specs.Replay.{Contents, applied, sequence_after}
+use Rattle.lsm_rows.specs.Replay.{Contents, applied, replayed, sequence_after}
+use Rattle.std.specs.FinMap as map
 use Rattle.lsm_frame.specs.Frames.{record_text}
 use Rattle.lsm_disk.specs.State.{State, Story, after as later, state_of, bytes_of, sure, file_synced}
 use Rattle.lsm_disk.specs.Images.{Tree, IsImage, tree_now, bytes_at}
@@ -23,11 +24,17 @@ use Prim.Native.Nat.{suc}
 use Rattle.ldb_script.specs.Plain.{Outcome, written, with_batch, both}
 use Rattle.ldb_script.specs.Stored.{Shown, Stands, Logs, FilesBeside, Keeps, log_of}
 use Rattle.ldb_script.specs.Opening.{made_durable}
+use Rattle.ldb_script.specs.Folders.{FoldersStand}
 use Rattle.ldb_script.proofs.Besides.{files_go, files_synced}
+use Rattle.ldb_script.proofs.Standings.{folders_of, folders_go, folders_synced}
 
 pub sequence_push : (start : ℕ) (batches : List (List Op)) (batch : List Op) → sequence_after start (batches ++ batch ∷ []) ≡ sequence_after start batches + length batch
 sequence_push start [] batch = refl
 sequence_push start (first ∷ batches) batch = sequence_push (start + length first) batches batch
+
+replayed_push : (m : Contents) (batches : List (List Op)) (batch : List Op) → replayed m (batches ++ batch ∷ []) ≡ fold applied (replayed m batches) batch
+replayed_push m [] batch = refl
+replayed_push m (first ∷ batches) batch = replayed_push (fold applied m first) batches batch
 
 sequence_from : (start more : ℕ) (batches : List (List Op)) → sequence_after (start + more) batches ≡ start + sequence_after more batches
 sequence_from start more [] = refl
@@ -93,17 +100,31 @@ module _ (start : Option Story) (old new : Shown) (outcome : Outcome) (was : Sta
       subst (FilesBeside new.disk.told) (sym same)
       (files_go old.disk.told new.disk.told old.log logs.story went.0 went.2 logs.wal.id logs.tells went.1 (kept_at (state_of logs.story) old.log logs.wal.id logs.wal.file logs.wal.kept) went.3 (was.beside story tells))
 
+  -- and the folders
+  pub folders_written : (wal : (logs : Logs old.disk.told old.log outcome.accepted outcome.after.durable) → (later : Story) × (new.disk.told ≡ Some later) × (P : State → Tree → Type 0) × GoesOn logs.story later (InFile logs.wal.id) P)
+      → new.log ≡ old.log → IsTrue outcome.after.start.tells → FoldersStand start new.disk.told new.log after.after
+  folders_written wal same tells =
+      let stood = was.folders tells in
+      let logs = was.log stood.first stood.told_first in
+      let went = wal logs in
+      folders_of start new.disk.told new.log outcome.after after.after refl refl
+      (subst (λ (l : List ℕ). FoldersStand start new.disk.told l outcome.after) (sym same)
+      (folders_go old.log logs.wal.id start old.disk.told new.disk.told outcome.after logs.story went.0 went.2 logs.tells went.1 (kept_at (state_of logs.story) old.log logs.wal.id logs.wal.file logs.wal.kept) went.3 stood))
+
   -- the store stands behind the batch that it wrote
-  pub stands_written : (log : (story : Story) → start ≡ Some story → Logs new.disk.told new.log after.accepted after.after.durable) → (beside : (story : Story) → start ≡ Some story → FilesBeside new.disk.told new.log) → new.contents ≡ fold applied old.contents batch → new.sequence ≡ old.sequence + length batch
+  pub stands_written : new.log ≡ old.log → (IsTrue outcome.after.start.tells → FoldersStand start new.disk.told new.log after.after) → (log : (story : Story) → start ≡ Some story → Logs new.disk.told new.log after.accepted after.after.durable) → (beside : (story : Story) → start ≡ Some story → FilesBeside new.disk.told new.log) → new.contents ≡ fold applied old.contents batch → new.sequence ≡ old.sequence + length batch
       → new.len ≡ old.len + length (record_text (old.len % 32768) (batch_text (old.sequence + 1) batch)) → Stands start new after
-  stands_written log beside contents sequence len = record {
+  stands_written same folders log beside contents sequence len = record {
     contents = contents ∙ ap (λ (m : Contents). fold applied m batch) was.contents;
     sequence = sequence ∙ ap (λ (n : ℕ). n + length batch) was.sequence;
+    replays = ap (λ (m : Contents). fold applied m batch) was.replays ∙ sym (replayed_push map.empty outcome.accepted batch);
     counted = ap (λ (n : ℕ). n + length batch) was.counted ∙ sym (sequence_push 0 outcome.accepted batch);
     batches = ap (λ (n : ℕ). n + 1) was.batches ∙ sym (length-append outcome.accepted (batch ∷ []));
     len = len ∙ (λ i. was.len i + length (record_text (was.len i % 32768) (text_of (behind_is i)))) ∙ sym (log_push outcome.accepted batch);
     log = log;
     beside = beside;
+    home = same ∙ was.home;
+    folders = folders;
   }
 
 -- ---- a sync
@@ -155,15 +176,27 @@ module _ (start : Option Story) (old new : Shown) (outcome : Outcome) (was : Sta
       let logs = was.log story tells in
       subst (FilesBeside new.disk.told) (sym same) (files_synced old.disk.told new.disk.told old.log logs.story logs.wal.id logs.wal.file logs.tells logs.wal.kept makes (was.beside story tells))
 
-  pub stands_synced : ((story : Story) → start ≡ Some story → Logs new.disk.told new.log outcome.accepted outcome.after.batches) → ((story : Story) → start ≡ Some story → FilesBeside new.disk.told new.log) → new.contents ≡ old.contents → new.sequence ≡ old.sequence → new.len ≡ old.len → Stands start new (made_durable outcome)
-  stands_synced log beside contents sequence len = record {
+  -- and the folders
+  pub folders_sure : Makes old.disk.told (file_synced old.log) new.disk.told → new.log ≡ old.log → IsTrue outcome.after.start.tells → FoldersStand start new.disk.told new.log (made_durable outcome).after
+  folders_sure makes same tells =
+      let stood = was.folders tells in
+      let logs = was.log stood.first stood.told_first in
+      folders_of start new.disk.told new.log outcome.after (made_durable outcome).after refl refl
+      (subst (λ (l : List ℕ). FoldersStand start new.disk.told l outcome.after) (sym same)
+      (folders_synced start old.disk.told new.disk.told old.log outcome.after logs.story logs.wal.id logs.wal.file logs.tells logs.wal.kept makes stood))
+
+  pub stands_synced : new.log ≡ old.log → (IsTrue outcome.after.start.tells → FoldersStand start new.disk.told new.log (made_durable outcome).after) → ((story : Story) → start ≡ Some story → Logs new.disk.told new.log outcome.accepted outcome.after.batches) → ((story : Story) → start ≡ Some story → FilesBeside new.disk.told new.log) → new.contents ≡ old.contents → new.sequence ≡ old.sequence → new.len ≡ old.len → Stands start new (made_durable outcome)
+  stands_synced same folders log beside contents sequence len = record {
     contents = contents ∙ was.contents;
     sequence = sequence ∙ was.sequence;
+    replays = was.replays;
     counted = was.counted;
     batches = was.batches;
     len = len ∙ was.len;
     log = log;
     beside = beside;
+    home = same ∙ was.home;
+    folders = folders;
   }
 
 -- a log whose batches are durable keeps its text

@@ -1,7 +1,10 @@
 -- What a disk tells after a call, and why it may refuse one.
 use Rattle.std.specs.Prelude.{◌≡◌, ℕ, List, [], ◌∷◌, ◌++◌, Option, Some, None, option_map, IfSome, IfErr, IsErrAnd, OnOk, Result, Ok, Err}
 use Rattle.std.proofs.Common.{inl, inr, refl, sym, ap, subst, ◌∙◌, arith}
-use Rattle.lsm_disk.specs.State.{State, Story, Seen, Change, state_of, after}
+use Rattle.lsm_disk.specs.Names.{Node, Folder_node, File_node, stands}
+use Rattle.lsm_disk.specs.Kinds.{kind_of}
+use Rattle.lsm_disk.specs.declared.calls.Kind.{Kind}
+use Rattle.lsm_disk.specs.State.{State, Story, Seen, Change, state_of, names_now, after}
 use Rattle.lsm_disk.specs.Answers.{Makes, pushed, RefusesBy, HasRisen}
 use Rattle.lsm_disk.specs.Halts.{halt_at, IsAmong}
 use Rattle.lsm_disk.specs.declared.calls.Halt.{Halt}
@@ -9,7 +12,8 @@ use Rattle.lsm_disk.specs.declared.calls.DiskCall.{DiskCall}
 use Rattle.lsm_disk.specs.declared.calls.DiskError.{DiskError}
 use Rattle.lsm_disk.specs.declared.calls.DiskError.TheVariants.{Fault, NotThere, Exists, NoLinks, NotEmpty, Short, NoMemory}
 use Rattle.lsm_disk.proofs.Runs.{state_push}
-use Rattle.ldb_script.specs.Opening.{SeenStay, Leads, IsHindered, open_error}
+use Rattle.ldb_script.specs.Filling.{IsFreeFolder, Fills, HasStore}
+use Rattle.ldb_script.specs.Opening.{SeenStay, IsFree, Leads, IsHindered, MakesOr, filling_calls, open_error}
 use Rattle.ldb_script.specs.declared.opening.OpenError.{OpenError}
 use Rattle.ldb_script.specs.declared.opening.OpenError.TheVariants as open_errors
 
@@ -56,8 +60,11 @@ pub leads_by : (P : State → Type 0) (R : State → State → Type 0) (old new 
 leads_by P R old new by story tells holds = let t = by story tells holds in (t.story, t.tells, t.holds)
 
 -- one part of it after another
-pub leads_then : (P Q R : State → Type 0) (old mid new : Option Story) → Leads P (λ s. Q) old mid → Leads Q (λ s. R) mid new → Leads P (λ s. R) old new
-leads_then P Q R old mid new first next = λ story tells holds. let m = first story tells holds in next m.0 m.1 m.2
+pub leads_then : (folder : List ℕ) (P Q R : State → Type 0) (old mid new : Option Story) → Leads P (Fills folder Q) old mid → Leads Q (Fills folder R) mid new → Leads P (Fills folder R) old new
+leads_then folder P Q R old mid new first next = λ story tells holds.
+    let m = first story tells holds in
+    let n = next m.0 m.1 m.2.has in
+    (n.0, n.1, record { has = n.2.has; elsewhere = λ path out. n.2.elsewhere path out ∙ m.2.elsewhere path out })
 
 module _ (calls : List Halt) (P : State → Type 0) (old mid new : Seen) (stays : SeenStay old mid) where
   -- the disk refused one of the calls, that nothing refuses where P holds
@@ -111,3 +118,31 @@ given_on (Err x) e P is h = subst P (sym is) h
 pub on_ok : {T E : Type 0} (r : Result T E) (P Q : Type 0) → (P → Q) → OnOk r P → OnOk r Q
 on_ok (Ok value) P Q f h = f h
 on_ok (Err e) P Q f h = h
+
+-- ---- the whole opening
+
+not_full : (o : Option Node) → None ≡ kind_of o → o ≡ None
+not_full None is = refl
+not_full (Some Folder_node) is = cc
+not_full (Some (File_node id)) is = cc
+
+-- the look at the folder's name found nothing
+pub free_from : (folder : List ℕ) (seen : Seen) (found : Option Kind) → found ≡ None → IfSome seen.told (λ story. found ≡ kind_of (stands (names_now (state_of story)) folder)) → IsFree folder seen
+free_from folder seen found none look story tells =
+    not_full (stands (names_now (state_of story)) folder) (sym none ∙ subst (λ (o : Option Story). IfSome o (λ story. found ≡ kind_of (stands (names_now (state_of story)) folder))) tells look)
+
+untold : (told : Option Story) (P : State → Type 0) → ((story : Story) → told ≡ Some story → P (state_of story)) → ((story : Story) → told ≡ Some story → ¬ P (state_of story)) → told ≡ None
+untold None P is never = refl
+untold (Some story) P is never = absurd (never story refl (is story refl))
+
+pub makes_or : {T : Type 0} (folder : List ℕ) (old mid new : Seen) → mid.told ≡ old.told → SeenStay old mid → IsFree folder old → (r : Result T OpenError) → OnOk r (Leads (IsFreeFolder folder) (Fills folder (HasStore folder)) mid.told new.told)
+    → IfErr r (IsHindered (filling_calls folder) (IsFreeFolder folder) mid new) → MakesOr folder old new r
+makes_or folder old mid new same stays free (Ok value) made refused = λ story tells. made story (same ∙ tells) (free story tells)
+makes_or folder old mid new same stays free (Err open_errors.DiskFault) made refused = omega (arith, stays.faults, refused)
+makes_or folder old mid new same stays free (Err open_errors.Found) made refused = absurd refused
+makes_or folder old mid new same stays free (Err (open_errors.Changed call path)) made refused = (
+  inr refused.0,
+  omega (arith, stays.refusals, refused.1),
+  untold old.told (IsFreeFolder folder) free (λ story tells. refused.2 story (same ∙ tells)),
+)
+makes_or folder old mid new same stays free (Err open_errors.NoMemory) made refused = free

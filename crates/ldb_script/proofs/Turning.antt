@@ -1,5 +1,5 @@
 -- How a run goes on by one line, and how it ends there.
-use Rattle.std.specs.Prelude.{◌≡◌, ◌⊎◌, ℕ, ◌+◌, ◌<◌, ◌≤◌, List, [], ◌∷◌, ◌++◌, length, Option, Result, Ok, Err, ◌==◌}
+use Rattle.std.specs.Prelude.{◌≡◌, ◌⊎◌, ℕ, ◌+◌, ◌<◌, ◌≤◌, List, [], ◌∷◌, ◌++◌, length, Some, Result, Ok, Err, ◌==◌}
 use Rattle.std.proofs.Common.{inl, inr, refl, sym, ap, subst, ◌∙◌, arith, append_assoc, append-nil, length-append}
 use Rattle.std.specs.List.{All, slice_split}
 use Rattle.std.specs.Io.KnownBytes.{Appends, Consumes, IsAtEnd}
@@ -7,17 +7,19 @@ use Rattle.std.proofs.KnownBytes.{Appends-trans, Consumes-trans}
 use Rattle.std.proofs.lemmas.List.Elements.{All-push, All-head, All-tail}
 use Rattle.std.proofs.lemmas.List.Splits.{slice_split_at, slice_split_none, length-slice_split}
 use Rattle.lsm_io.specs.Causes.{Rose}
-use Rattle.lsm_disk.specs.State.{Story}
 use Rattle.ldb_script.specs.Script.{lines, without_empty_end}
 use Rattle.ldb_script.specs.Input.{IsInside, HasBegun, IsWhole, IsLast, IsOver as IsEnd, IsTooLong}
-use Rattle.ldb_script.specs.Plain.{Plain, Outcome, Output, Does, told, both, empty}
-use Rattle.ldb_script.specs.Stored.{Shown, Stands}
-use Rattle.ldb_script.specs.Opening.{SeenStay}
-use Rattle.ldb_script.specs.Run.{Stream, Met, now, joined, Reached, CountsStay}
-use Rattle.ldb_script.specs.Doing.{IsDone, Stops, DoneOr, Underway, IsOver, IsAtBad, IsAtFault, Ran, TurnedOr}
+use Rattle.ldb_script.specs.Plain.{Start, Plain, Outcome, Output, Does, told, both, empty, line_at}
+use Rattle.ldb_script.specs.Tools.{Tools, Origin, AreAt, ByLine}
+use Rattle.ldb_script.specs.declared.line.Line.TheVariants.{Ask}
+use Rattle.ldb_script.specs.declared.line.Command.{Command}
+use Rattle.ldb_script.specs.declared.line.Command.TheVariants.{Write, Sync, Get, Scan, State, ShowFolder, CreateBackup, ListBackups, RestoreBackup}
+use Rattle.ldb_script.specs.Run.{Stream, Met, now, joined, Reached, IsAsked, IsAskedRestore, CountsStay}
+use Rattle.ldb_script.specs.Doing.{IsOfRestore, IsDone, Stops, DoneOr, Underway, IsOver, IsAtBad, IsAtFault, Ran, TurnedOr}
 use Rattle.ldb_script.specs.declared.ending.Ended.{Ended}
 use Rattle.ldb_script.specs.declared.ending.Ended.TheVariants as ended
 use Rattle.ldb_script.proofs.Opened.{rose_later}
+use Rattle.ldb_script.proofs.Serving.{at_unnamed, stands_unnamed}
 
 -- ---- lines and their newlines
 
@@ -85,27 +87,30 @@ output_push plain (first ∷ done) outcome line next (step, does_first, rest, ou
       ap (λ (o : Outcome). both o next) is ∙ (λ i. record { text = append_assoc step.text rest.text next.text i; accepted = append_assoc step.accepted rest.accepted next.accepted i; after = next.after }),
     )
 
-pub output_none : Output empty [] (told empty [])
+pub output_none : (start : Start) → Output (empty start) [] (told (empty start) [])
 unfolding Output
-output_none = refl
+output_none start = refl
 
 pub output_same : (plain : Plain) (xs ys : List (List ℕ)) (outcome : Outcome) → xs ≡ ys → Output plain xs outcome → Output plain ys outcome
 output_same plain xs ys outcome e output = subst (λ (ls : List (List ℕ)). Output plain ls outcome) e output
 
 -- ---- a turn
 
-module _ (start : Option Story) (first : Met) (source source' sink sink' : Stream) (old new : Shown) (actors actors' : List (List ℕ)) (done : List (List ℕ)) (outcome : Outcome) (number : ℕ)
-    (under : Underway start (now first source sink old.disk) old actors done outcome) (is_number : number ≡ length done + 1)
-    (source_later : source.faults ≤ source'.faults) (sink_later : sink.faults ≤ sink'.faults) (stay : SeenStay old.disk new.disk) where
+module _ (origin : Origin) (first : Met) (source source' sink sink' : Stream) (old new : Tools) (actors actors' : List (List ℕ)) (done : List (List ℕ)) (outcome : Outcome) (number : ℕ)
+    (under : Underway origin (now first source sink old.store.disk old.backups.disk old.clock) old actors done outcome) (is_number : number ≡ length done + 1)
+    (source_later : source.faults ≤ source'.faults) (sink_later : sink.faults ≤ sink'.faults) (stay : ByLine old new) where
   abbrev m : Met
-  m = now first source' sink' new.disk
+  m = now first source' sink' new.store.disk new.backups.disk new.clock
 
   pub counts : CountsStay m
   counts = record {
     source = omega (arith, under.counts.source, source_later);
     sink = omega (arith, under.counts.sink, sink_later);
-    faults = omega (arith, under.counts.faults, stay.faults);
-    refusals = omega (arith, under.counts.refusals, stay.refusals);
+    faults = omega (arith, under.counts.faults, stay.store.counts.faults);
+    refusals = omega (arith, under.counts.refusals, stay.store.counts.refusals);
+    backup_faults = omega (arith, under.counts.backup_faults, stay.backups.faults);
+    backup_refusals = omega (arith, under.counts.backup_refusals, stay.backups.refusals);
+    clock = omega (arith, under.counts.clock, stay.clock);
   }
 
   read_on : (part : List ℕ) → Consumes source.bytes source'.bytes part → Consumes first.source_before.bytes source'.bytes (joined done ++ part)
@@ -114,18 +119,18 @@ module _ (start : Option Story) (first : Met) (source source' sink sink' : Strea
       (Consumes-trans first.source_before.bytes source.bytes source'.bytes (joined done ++ []) part under.reached.read read)
 
   -- the lines so far, and a part of the next one
-  pub reached : (part : List ℕ) → Consumes source.bytes source'.bytes part → Reached m done part outcome
+  pub reached : (part : List ℕ) → Consumes source.bytes source'.bytes part → Reached origin.start m done part outcome
   reached part read = record { read = read_on part read; inside = under.reached.inside; few = under.reached.few; output = under.reached.output }
 
   pub silent : sink' ≡ sink → Appends first.sink_before.bytes sink'.bytes outcome.text
   silent same = subst (λ (s : Stream). Appends first.sink_before.bytes s.bytes outcome.text) (sym same) under.written
 
-  still : new ≡ old → Stands start new outcome
-  still kept = subst (λ (s : Shown). Stands start s outcome) (sym kept) under.stands
+  still : new ≡ old → AreAt origin new outcome
+  still kept = subst (λ (t : Tools). AreAt origin t outcome) (sym kept) under.stands
 
   module _ (line : List ℕ) where
     -- one more line was read and done
-    pub goes_on : number ≤ 10000000 → IsWhole source.bytes source'.bytes line → IsDone start sink sink' new actors' outcome line → TurnedOr start m new actors' done (Ok tt)
+    pub goes_on : number ≤ 10000000 → IsWhole source.bytes source'.bytes line → IsDone origin sink sink' new actors' outcome line → TurnedOr origin m new actors' done (Ok tt)
     goes_on few whole did = (
       line,
       both outcome did.next,
@@ -134,19 +139,41 @@ module _ (start : Option Story) (first : Met) (source source' sink sink' : Strea
           read = subst (λ (j : List ℕ). Consumes first.source_before.bytes source'.bytes j) (sym (joined_push done line) ∙ sym (append-nil (joined (done ++ line ∷ [])))) (read_on (line ++ 10 ∷ []) whole.bytes);
           inside = All-push IsInside done line under.reached.inside whole.inside;
           few = omega (arith, length-append done (line ∷ []), is_number, few);
-          output = output_push empty done outcome line did.next under.reached.output did.does;
+          output = output_push (empty origin.start) done outcome line did.next under.reached.output did.does;
         };
         written = Appends-trans first.sink_before.bytes sink.bytes sink'.bytes outcome.text did.next.text under.written did.took;
         stands = did.stands;
         named = did.named;
         counts = counts;
         disk = refl;
+        backups = refl;
+        clock = refl;
       },
     )
 
+    asked : (part : List ℕ) → Consumes source.bytes source'.bytes part → (part ≡ line ++ 10 ∷ []) ⊎ ((part ≡ line) × IsAtEnd source'.bytes) → (actor : List ℕ) (command : Command)
+        → line_at outcome.after.actors line ≡ Some (Ask actor command) → IsAsked origin.start m outcome command
+    asked part read ends actor command asks = record { done = done; part = part; reached = reached part read; line = line; ends = ends; actor = actor; asks = asks }
+
+    asked_restore : (at : Outcome) (command : Command) → IsOfRestore command → IsAsked origin.start m at command → IsAskedRestore origin.start m at
+    asked_restore at (RestoreBackup id name) of a = record { id = id; name = name; asked = a }
+    asked_restore at (Write durable batch) of a = absurd of
+    asked_restore at Sync of a = absurd of
+    asked_restore at (Get key) of a = absurd of
+    asked_restore at Scan of a = absurd of
+    asked_restore at State of a = absurd of
+    asked_restore at (ShowFolder name) of a = absurd of
+    asked_restore at CreateBackup of a = absurd of
+    asked_restore at ListBackups of a = absurd of
+
+    rose_either : Rose old.store.disk.refusals new.store.disk.refusals ⊎ Rose old.backups.disk.refusals new.backups.disk.refusals
+        → Rose first.disk_before.refusals new.store.disk.refusals ⊎ Rose first.backups_before.refusals new.backups.disk.refusals
+    rose_either (inl rose) = inl (rose_later first.disk_before.refusals old.store.disk.refusals new.store.disk.refusals under.counts.refusals rose)
+    rose_either (inr rose) = inr (rose_later first.backups_before.refusals old.backups.disk.refusals new.backups.disk.refusals under.counts.backup_refusals rose)
+
     -- the line ends the run
     pub stops : (part : List ℕ) → Consumes source.bytes source'.bytes part → (part ≡ line ++ 10 ∷ []) ⊎ ((part ≡ line) × IsAtEnd source'.bytes) → IsInside line
-        → (e : Ended) → Stops start sink sink' old new outcome line number e → Ran start m new e
+        → (e : Ended) → Stops origin sink sink' old new outcome line number e → Ran origin m new e
     stops part read ends inside (ended.BadLine n) h = record {
       done = done;
       part = part;
@@ -173,24 +200,49 @@ module _ (start : Option Story) (first : Met) (source source' sink sink' : Strea
       rose = rose_later first.sink_before.faults sink.faults sink'.faults under.counts.sink h.rose;
       stands = h.stands;
     }
-    stops part read ends inside ended.DiskFault h = rose_later first.disk_before.faults old.disk.faults new.disk.faults under.counts.faults h
-    stops part read ends inside (ended.Changed call path) h = (rose_later first.disk_before.refusals old.disk.refusals new.disk.refusals under.counts.refusals h.0, h.1)
+    stops part read ends inside ended.DiskFault h = rose_later first.disk_before.faults old.store.disk.faults new.store.disk.faults under.counts.faults h.breaks
+    stops part read ends inside ended.BackupFault h = rose_later first.backups_before.faults old.backups.disk.faults new.backups.disk.faults under.counts.backup_faults h.breaks
+    stops part read ends inside ended.ClockFault h = record {
+      rose = rose_later first.clock_before.faults old.clock.faults new.clock.faults under.counts.clock h.breaks.rose;
+      outcome = outcome;
+      asked = asked part read ends h.actor CreateBackup (subst (λ (c : Command). line_at outcome.after.actors line ≡ Some (Ask h.actor c)) h.breaks.is h.asks);
+      written = silent h.silent;
+      stands = at_unnamed origin new outcome h.actor h.breaks.stands;
+    }
+    stops part read ends inside (ended.InTheWay why) h = record {
+      outcome = outcome;
+      command = h.command;
+      asked = asked part read ends h.actor h.command h.asks;
+      of_backups = h.breaks.of_backups;
+      way = h.breaks.way;
+      is = h.breaks.is;
+      unchanged = h.breaks.unchanged;
+      written = silent h.silent;
+      stands = stands_unnamed origin.store new.store outcome h.actor h.breaks.stands;
+    }
+    stops part read ends inside (ended.Changed call path) h = (rose_later first.disk_before.refusals old.store.disk.refusals new.store.disk.refusals under.counts.refusals h.breaks.0, h.breaks.1)
+    stops part read ends inside (ended.BackupChanged call path) h = rose_later first.backups_before.refusals old.backups.disk.refusals new.backups.disk.refusals under.counts.backup_refusals h.breaks
+    stops part read ends inside (ended.RestoreChanged call path) h = record {
+      outcome = outcome;
+      asked = asked_restore outcome h.command h.breaks.0 (asked part read ends h.actor h.command h.asks);
+      rose = rose_either h.breaks.1;
+    }
     stops part read ends inside ended.NoMemory h = tt
     stops part read ends inside ended.Finished h = absurd h
     stops part read ends inside ended.ReadFault h = absurd h
     stops part read ends inside ended.Found h = absurd h
 
     -- a line with its newline
-    pub turned : number ≤ 10000000 → IsWhole source.bytes source'.bytes line → (result : Result Unit Ended) → DoneOr start sink sink' old new actors' outcome line number result → TurnedOr start m new actors' done result
+    pub turned : number ≤ 10000000 → IsWhole source.bytes source'.bytes line → (result : Result Unit Ended) → DoneOr origin sink sink' old new actors' outcome line number result → TurnedOr origin m new actors' done result
     turned few whole (Ok did) h = goes_on few whole h
     turned few whole (Err e) h = stops (line ++ 10 ∷ []) whole.bytes (inl refl) whole.inside e h
 
     -- a line that the input's end ends
-    pub stops_last : IsLast source.bytes source'.bytes line → (e : Ended) → Stops start sink sink' old new outcome line number e → Ran start m new e
+    pub stops_last : IsLast source.bytes source'.bytes line → (e : Ended) → Stops origin sink sink' old new outcome line number e → Ran origin m new e
     stops_last last e h = stops line last.begun.bytes (inr (refl, last.at_end)) last.begun.inside e h
 
     -- the input ended the line, and all is done
-    pub ends_with : number ≤ 10000000 → IsLast source.bytes source'.bytes line → IsDone start sink sink' new actors' outcome line → IsOver start m new
+    pub ends_with : number ≤ 10000000 → IsLast source.bytes source'.bytes line → IsDone origin sink sink' new actors' outcome line → IsOver origin m new
     ends_with few last did =
         let all : lines (joined done ++ line) ≡ done ++ line ∷ [] = lines_joined done line under.reached.inside ∙ ap (λ (ls : List (List ℕ)). done ++ ls) (lines_last line last.some last.begun.inside) in
         record {
@@ -199,13 +251,13 @@ module _ (start : Option Story) (first : Met) (source source' sink sink' : Strea
           at_end = last.at_end;
           few = omega (arith, ap length all, length-append done (line ∷ []), is_number, few);
           outcome = both outcome did.next;
-          output = output_same empty (done ++ line ∷ []) (lines (joined done ++ line)) (both outcome did.next) (sym all) (output_push empty done outcome line did.next under.reached.output did.does);
+          output = output_same (empty origin.start) (done ++ line ∷ []) (lines (joined done ++ line)) (both outcome did.next) (sym all) (output_push (empty origin.start) done outcome line did.next under.reached.output did.does);
           written = Appends-trans first.sink_before.bytes sink.bytes sink'.bytes outcome.text did.next.text under.written did.took;
           stands = did.stands;
         }
 
     -- the source failed in the line
-    pub fails : HasBegun source.bytes source'.bytes line → Rose source.faults source'.faults → sink' ≡ sink → new ≡ old → IsAtFault start m new
+    pub fails : HasBegun source.bytes source'.bytes line → Rose source.faults source'.faults → sink' ≡ sink → new ≡ old → IsAtFault origin m new
     fails begun rose same kept = record {
       rose = rose_later first.source_before.faults source.faults source'.faults under.counts.source rose;
       done = done;
@@ -218,7 +270,7 @@ module _ (start : Option Story) (first : Met) (source source' sink sink' : Strea
     }
 
     -- the line is too long
-    pub too_long : IsTooLong source.bytes source'.bytes line → sink' ≡ sink → new ≡ old → IsAtBad start m new number
+    pub too_long : IsTooLong source.bytes source'.bytes line → sink' ≡ sink → new ≡ old → IsAtBad origin m new number
     too_long long same kept = record {
       done = done;
       part = line;
@@ -231,7 +283,7 @@ module _ (start : Option Story) (first : Met) (source source' sink sink' : Strea
     }
 
   -- nothing is left
-  pub ends_behind : IsEnd source.bytes source'.bytes → sink' ≡ sink → new ≡ old → IsOver start m new
+  pub ends_behind : IsEnd source.bytes source'.bytes → sink' ≡ sink → new ≡ old → IsOver origin m new
   ends_behind over same kept =
       let all : lines (joined done ++ []) ≡ done = lines_joined done [] under.reached.inside ∙ ap (λ (ls : List (List ℕ)). done ++ ls) lines_none ∙ append-nil done in
       record {
@@ -240,7 +292,7 @@ module _ (start : Option Story) (first : Met) (source source' sink sink' : Strea
         at_end = over.at_end;
         few = omega (arith, ap length all, under.reached.few);
         outcome = outcome;
-        output = output_same empty done (lines (joined done ++ [])) outcome (sym all) under.reached.output;
+        output = output_same (empty origin.start) done (lines (joined done ++ [])) outcome (sym all) under.reached.output;
         written = silent same;
         stands = still kept;
       }

@@ -1,11 +1,18 @@
 -- What an opening, a write and a sync leave, by their answers.
-use Rattle.std.specs.Prelude.{◌≡◌, ℕ, ◌+◌, ◌≤◌, ◌<◌, ◌^◌, Bool, List, [], ◌∷◌, ◌++◌, length, Option, Some, None, IsSome, Result, Ok, Err}
+use Rattle.std.specs.Prelude.{◌≡◌, ℕ, ◌+◌, ◌≤◌, ◌<◌, ◌^◌, Bool, List, [], ◌∷◌, ◌++◌, length, Option, Some, None, IsSome, IsTrue, Result, Ok, Err}
 use Rattle.lsm_io.specs.Causes.{Rose}
 use Rattle.lsm_disk.specs.Names.{stands}
 use Rattle.lsm_disk.specs.State.{Seen, State, Story, state_of, names_now}
 use Rattle.lsm_rows.specs.declared.operations.Op.{Op}
-use Rattle.ldb_script.specs.Filling.{HasStore}
-use Rattle.ldb_script.specs.Plain.{Outcome, told, empty, written, all_durable, both}
+use Rattle.lsm_folder.specs.Reading.{Shown as Read}
+use Rattle.lsm_folder.specs.declared.refusals.Refusal.{Refusal}
+use Rattle.lsm_folder.specs.declared.refusals.Refusal.TheVariants.{NoFolder}
+use Rattle.lsm_recover.specs.Shown.{AnswersShown}
+use Rattle.lsm_recover.specs.declared.errors.FolderError.{FolderError}
+use Rattle.lsm_recover.specs.declared.folder.Found.{Found}
+use Rattle.ldb_script.specs.Folders.{TellsTaken}
+use Rattle.ldb_script.specs.Filling.{Fills, HasStore}
+use Rattle.ldb_script.specs.Plain.{Standing, Free, Reads, Taken, Untold, Start, Outcome, told, empty, written, all_durable, both}
 use Rattle.ldb_script.specs.Stored.{Shown, Stands, log_path, manifest_path, current_path, temporary_path}
 use Rattle.lsm_disk.specs.Halts.{halt_at, IsAmong}
 use Rattle.lsm_disk.specs.declared.calls.DiskCall.{DiskCall}
@@ -32,9 +39,10 @@ IsFree folder seen = (story : Story) → seen.told ≡ Some story → stands (na
 abbrev pub IsFull : List ℕ → Seen → Type 0
 IsFull folder seen = (story : Story) → seen.told ≡ Some story → IsSome (stands (names_now (state_of story)) folder)
 
--- A new store over an empty log, beside a new manifest and `CURRENT`: the folder's name was free.
+-- A new store over an empty log, beside a new manifest and `CURRENT`: the folder's name was free. It stands where each run begins
+-- whose folder this is, and which says of the disk that it tells only where it does, and which names it has.
 pub record IsOpened (folder : List ℕ) (before : Seen) (shown : Shown) : Type 0 where
-  pub stands : Stands before.told shown (told empty [])
+  pub stands : (start : Start) → start.home ≡ folder → (IsTrue start.tells → TellsTaken before.told start.taken) → Stands before.told shown (told (empty start) [])
   pub log : shown.log ≡ log_path folder
   pub free : IsFree folder before
 
@@ -89,6 +97,22 @@ abbrev pub Syncs : Option Story → Shown → Shown → Outcome → Result Unit 
 Syncs start old new outcome (Ok done) = Stands start new (made_durable outcome)
 Syncs start old new outcome (Err error) = IsBroken start old new error
 
+-- How a folder's reading answers what stands under its name: as it reads, but for a fault or want of memory. Of a name that was
+-- taken at the start it may be any answer of a folder that doesn't change.
+abbrev pub ReadsAs : Standing → Result Found FolderError → Type 0
+ReadsAs Free result = AnswersShown (Err NoFolder) result
+ReadsAs (Reads shown) result = AnswersShown (Ok shown) result
+ReadsAs Taken result = (read : Result Read Refusal) × AnswersShown read result
+ReadsAs Untold result = Unit {0}
+
+-- a call that writes nothing leaves the store as it was, but for the counts
+pub record IsUntouched (old new : Shown) : Type 0 where
+  pub told : new.disk.told ≡ old.disk.told
+  pub log : new.log ≡ old.log
+  pub len : new.len ≡ old.len
+  pub contents : new.contents ≡ old.contents
+  pub sequence : new.sequence ≡ old.sequence
+
 -- ---- the steps of these
 
 -- What one line leaves of a store at most: so many operations and bytes more, and the same log.
@@ -136,5 +160,5 @@ IsHindered calls P old new open_errors.NoMemory = Unit {0}
 
 -- the folder and its files were made, or why not
 abbrev pub MakesOr : {T : Type 0} → List ℕ → Seen → Seen → Result T OpenError → Type 0
-MakesOr folder before after (Ok log) = (story : Story) → before.told ≡ Some story → (later : Story) × (after.told ≡ Some later) × HasStore folder (state_of later)
+MakesOr folder before after (Ok log) = (story : Story) → before.told ≡ Some story → (later : Story) × (after.told ≡ Some later) × Fills folder (HasStore folder) (state_of story) (state_of later)
 MakesOr folder before after (Err why) = IsUnopened folder before after why

@@ -1,12 +1,16 @@
 -- The script: its lines, and what a line asks for.
-use Rattle.std.specs.Prelude.{ℕ, Bool, true, false, List, [], ◌∷◌, Option, Some, None, if◌then◌else◌, ◌==◌, codes}
+use Rattle.std.specs.Prelude.{ℕ, Bool, true, false, ◌&&◌, List, [], ◌∷◌, Option, Some, None, if◌then◌else◌, ◌==◌, codes}
 use Rattle.std.specs.List.{slice_split, list_all}
 use Rattle.std.specs.Str.{bytes_eq}
 use Rattle.ldb_script.specs.Words.{is_word, is_actor, bytes_of_word}
 use Rattle.ldb_script.specs.declared.line.Line.{Line}
 use Rattle.ldb_script.specs.declared.line.Line.TheVariants.{Blank, Ask}
 use Rattle.ldb_script.specs.declared.line.Command.{Command}
-use Rattle.ldb_script.specs.declared.line.Command.TheVariants.{Write, Sync, Get, Scan, State}
+use Rattle.std.specs.Fmt.{decimal}
+use Rattle.std.specs.Str.Parse.{digits_value}
+use Rattle.lsm_names.specs.Folders.{is_folder_name}
+use Rattle.bk_tree.specs.Places.{is_identifier}
+use Rattle.ldb_script.specs.declared.line.Command.TheVariants.{Write, Sync, Get, Scan, State, ShowFolder, CreateBackup, ListBackups, RestoreBackup}
 use Rattle.lsm_rows.specs.declared.operations.Op.{Op}
 use Rattle.lsm_rows.specs.declared.operations.Op.TheVariants as ops
 
@@ -100,7 +104,46 @@ abbrev pub a_bare : Command → List (List ℕ) → Option Command
 a_bare command [] = Some command
 a_bare command (word ∷ words) = None
 
--- the words behind the actor: `get K`, `sync`, `scan`, `state`, or a write, durable or not
+-- the name of a folder
+abbrev pub folder_of : List ℕ → Option (List ℕ)
+folder_of word = if is_folder_name word then Some word else None
+
+-- an identifier is spelled in decimal, without leading zeros, and is 1 to 4,294,967,295
+abbrev pub is_spelled_identifier : ℕ → List ℕ → Bool
+is_spelled_identifier id word = is_identifier id && bytes_eq word (decimal id)
+
+unfoldable pub identifier_of : List ℕ → Option ℕ
+identifier_of word = if is_spelled_identifier (digits_value 10 word) word then Some (digits_value 10 word) else None
+
+abbrev pub a_show_of : Option (List ℕ) → Option Command
+a_show_of None = None
+a_show_of (Some name) = Some (ShowFolder name)
+
+-- `dir DIR`
+abbrev pub a_show : List (List ℕ) → Option Command
+a_show (what ∷ word ∷ []) = if bytes_eq what (codes "dir") then a_show_of (folder_of word) else None
+a_show words = None
+
+abbrev pub a_restore_of : Option ℕ → Option (List ℕ) → Option Command
+a_restore_of None name = None
+a_restore_of (Some id) None = None
+a_restore_of (Some id) (Some name) = Some (RestoreBackup id name)
+
+-- `ID DIR`
+abbrev pub a_restore : List (List ℕ) → Option Command
+a_restore (word ∷ name ∷ []) = a_restore_of (identifier_of word) (folder_of name)
+a_restore words = None
+
+-- `create`, `list`, or `restore ID DIR`
+abbrev pub a_backup : List (List ℕ) → Option Command
+a_backup [] = None
+a_backup (verb ∷ words) =
+    if bytes_eq verb (codes "create") then a_bare CreateBackup words
+    else (if bytes_eq verb (codes "list") then a_bare ListBackups words
+    else (if bytes_eq verb (codes "restore") then a_restore words else None))
+
+-- the words behind the actor: `get K`, `sync`, `scan`, `state`, `show dir DIR`, `backup` and what is asked of backups, or a
+-- write, durable or not
 abbrev pub command_of : List (List ℕ) → Option Command
 command_of [] = None
 command_of (verb ∷ words) =
@@ -108,8 +151,10 @@ command_of (verb ∷ words) =
     else (if bytes_eq verb (codes "sync") then a_bare Sync words
     else (if bytes_eq verb (codes "scan") then a_bare Scan words
     else (if bytes_eq verb (codes "state") then a_bare State words
+    else (if bytes_eq verb (codes "show") then a_show words
+    else (if bytes_eq verb (codes "backup") then a_backup words
     else (if bytes_eq verb (codes "durable") then a_write true (write_of words)
-    else a_write false (write_of (verb ∷ words))))))
+    else a_write false (write_of (verb ∷ words))))))))
 
 abbrev pub asked_by : List ℕ → Option Command → Option Line
 asked_by actor None = None

@@ -1,8 +1,9 @@
 -- What a store keeps of a run: the contents in memory, and each accepted batch in the log.
-use Rattle.std.specs.Prelude.{◌≡◌, ◌≢◌, ℕ, List, [], ◌∷◌, ◌++◌, length, Option, Some, refl, codes}
+use Rattle.std.specs.Prelude.{◌≡◌, ◌≢◌, ℕ, List, [], ◌∷◌, ◌++◌, length, Option, Some, IsTrue, refl, codes}
 use Rattle.std.specs.Coded.{Coded, code_by, coded×, coded_ℕ}
 use Rattle.lsm_rows.specs.declared.operations.Op.{Op}
-use Rattle.lsm_rows.specs.Replay.{Contents, sequence_after}
+use Rattle.std.specs.FinMap as map
+use Rattle.lsm_rows.specs.Replay.{Contents, replayed, sequence_after}
 use Rattle.lsm_names.specs.Paths.{parent_of}
 use Rattle.lsm_frame.specs.Frames.{log_text}
 use Rattle.lsm_disk.specs.State.{FileState, Seen, State, Story, state_of, file_at}
@@ -11,8 +12,9 @@ use Rattle.lsm_disk.specs.Images.{Tree, IsImage, tree_now, bytes_at}
 use Rattle.lsm_disk.specs.Codes.{coded_seen}
 use Rattle.lsm_wal.specs.Batches.{in_sequence, wal_text}
 use Rattle.lsm_wal.specs.Standing.{IsWal}
-use Rattle.ldb_script.specs.Contents.{coded_bytes, coded_contents}
+use Rattle.lsm_recover.specs.Contents.{coded_bytes, coded_contents}
 use Rattle.ldb_script.specs.Plain.{Outcome}
+use Rattle.ldb_script.specs.Folders.{FoldersStand}
 
 -- what contracts see of a store
 pub record Shown : Type 0 where
@@ -102,12 +104,16 @@ pub record FilesBeside (told : Option Story) (log : List ℕ) : Type 0 where
   pub files : HasFirstFiles (state_of story) (parent_of log) log
 
 -- The store and the disk stand where a run of lines has come: the plain state is in memory, and where the disk told at the
--- start, the log holds the accepted batches, and the manifest and `CURRENT` stand beside it as the opening made them.
+-- start, the log holds the accepted batches, and the manifest and `CURRENT` stand beside it as the opening made them. Where both
+-- disks tell, the store's folder has nothing else, the restored folders stand, and no other name was touched.
 pub record Stands (start : Option Story) (shown : Shown) (outcome : Outcome) : Type 0 where
   pub contents : shown.contents ≡ outcome.after.contents
   pub sequence : shown.sequence ≡ outcome.after.sequence
+  pub replays : outcome.after.contents ≡ replayed map.empty outcome.accepted
   pub counted : outcome.after.sequence ≡ sequence_after 0 outcome.accepted
   pub batches : outcome.after.batches ≡ length outcome.accepted
   pub len : shown.len ≡ length (log_of outcome.accepted)
   pub log : (story : Story) → start ≡ Some story → Logs shown.disk.told shown.log outcome.accepted outcome.after.durable
   pub beside : (story : Story) → start ≡ Some story → FilesBeside shown.disk.told shown.log
+  pub home : shown.log ≡ log_path outcome.after.start.home
+  pub folders : IsTrue outcome.after.start.tells → FoldersStand start shown.disk.told shown.log outcome.after

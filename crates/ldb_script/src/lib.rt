@@ -2,14 +2,20 @@
 #![tactic(auto)]
 
 mod actors;
-mod contents;
+mod answering;
+mod backups;
 mod ending;
+mod files;
 mod input;
 mod line;
+mod listing;
 mod opening;
 mod operations;
+mod place;
 mod printing;
+mod restoring;
 mod script;
+mod showing;
 mod store;
 mod words;
 

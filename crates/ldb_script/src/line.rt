@@ -3,13 +3,16 @@ ghost use Rattle.std.specs.Prelude.{◌≡◌, ◌==◌, ◌∷◌, ℕ, IfOk, m
 ghost use Rattle.std.specs.List.{slice_split};
 ghost use Rattle.std.specs.Option.{option_map};
 ghost use Rattle.ldb_script.specs.Words.{bytes_of_word};
-ghost use Rattle.ldb_script.specs.Script.{is_blank, a_put, a_delete, first_operation, words_in, operations, write_of, a_get, a_bare, a_write, command_of, line_of_words, line_of};
+ghost use Rattle.ldb_script.specs.Script.{is_blank, a_put, a_delete, first_operation, words_in, operations, write_of, a_get, a_bare, a_write, folder_of, is_spelled_identifier, identifier_of, a_show, a_restore, a_backup, command_of, line_of_words, line_of};
 
 use crate::operations::Operations;
 use crate::words::{all_words, bytes_of_word, is_actor, split_words};
+use itoa::Buffer;
 use lsm_bytes::{Bytes, NoMemory};
+use lsm_names::Folder;
 use lsm_rows::Op;
 use std::alloc::Global;
+use std::str;
 
 /// What an actor asks for.
 #[derive(Drop)]
@@ -24,6 +27,14 @@ pub enum Command {
     Scan,
     /// Asks for the last sequence, and how many keys have a value.
     State,
+    /// Asks for what a folder of the store's disk holds.
+    ShowFolder { name: Folder },
+    /// Makes a backup of the store.
+    CreateBackup,
+    /// Asks which backups there are.
+    ListBackups,
+    /// Restores a backup into a new folder of the store's disk.
+    RestoreBackup { id: u32, name: Folder },
 }
 
 /// A line of a script.
@@ -167,6 +178,76 @@ fn bare(command: Command, words: &[&[u8]]) -> Option<Command>
     }
 }
 
+fn folder_of(word: &[u8]) -> Option<Folder>
+    ensures { result ≡ folder_of word.now }
+{
+    match Folder::parse(word) {
+        Ok(name) => Some(name),
+        Err(_) => None,
+    }
+}
+
+// Whether the word spells this identifier.
+fn is_spelling(id: u32, word: &[u8]) -> bool
+    ensures { result ≡ is_spelled_identifier id word.now }
+{
+    1 <= id && word == Buffer::new().format(id).as_bytes()
+}
+
+fn identifier_of(word: &[u8]) -> Option<u32>
+    ensures { result ≡ identifier_of word.now }
+{
+    let id: u32 = str::from_utf8(word).ok()?.parse().ok()?;
+    if is_spelling(id, word) {
+        Some(id)
+    } else {
+        None
+    }
+}
+
+fn parse_show(words: &[&[u8]]) -> Option<Command>
+    ensures { result ≡ a_show (map (λ w. w.now) words.now) }
+{
+    let [what, word] = words else {
+        return None;
+    };
+    if *what == b"dir".as_slice() {
+        Some(Command::ShowFolder {
+            name: folder_of(word)?,
+        })
+    } else {
+        None
+    }
+}
+
+fn parse_restore(words: &[&[u8]]) -> Option<Command>
+    ensures { result ≡ a_restore (map (λ w. w.now) words.now) }
+{
+    let [word, name] = words else {
+        return None;
+    };
+    Some(Command::RestoreBackup {
+        id: identifier_of(word)?,
+        name: folder_of(name)?,
+    })
+}
+
+// What is asked of backups.
+fn parse_backup(words: &[&[u8]]) -> Option<Command>
+    ensures { result ≡ a_backup (map (λ w. w.now) words.now) }
+{
+    let (verb, rest) = words.split_first()?;
+    if *verb == b"create".as_slice() {
+        bare(Command::CreateBackup, rest)
+    } else if *verb == b"list".as_slice() {
+        bare(Command::ListBackups, rest)
+    } else if *verb == b"restore".as_slice() {
+        parse_restore(rest)
+    } else {
+        None
+    }
+}
+
 fn parse_command(alloc: Global, words: &[&[u8]]) -> Result<Option<Command>, NoMemory>
     ensures { IfOk result (λ command. command ≡ command_of (map (λ w. w.now) words.now)) }
 {
@@ -181,6 +262,10 @@ fn parse_command(alloc: Global, words: &[&[u8]]) -> Result<Option<Command>, NoMe
         Ok(bare(Command::Scan, rest))
     } else if *verb == b"state".as_slice() {
         Ok(bare(Command::State, rest))
+    } else if *verb == b"show".as_slice() {
+        Ok(parse_show(rest))
+    } else if *verb == b"backup".as_slice() {
+        Ok(parse_backup(rest))
     } else if *verb == b"durable".as_slice() {
         Ok(asked(true, parse_write(alloc, rest)?))
     } else {

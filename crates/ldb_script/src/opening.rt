@@ -1,26 +1,28 @@
 //! The opening of a new store: the folder and its first three files. They are the manifest, `CURRENT` that names it, and
 //! an empty log.
-ghost use Rattle.std.specs.Prelude.{◌≡◌, None, OnOk, IfOk, IfErr};
+ghost use Rattle.std.specs.Prelude.{◌≡◌, None, OnOk, IfOk, IfErr, IsTrue};
+ghost use Rattle.lsm_names.specs.Folders.{is_folder_name};
 ghost use Rattle.lsm_disk.specs.Refusals.{no_room};
-ghost use Rattle.lsm_publish.specs.Publishing.{publish_calls};
+ghost use Rattle.lsm_disk.specs.Tree.{TellsLawful};
+ghost use Rattle.lsm_publish.specs.Publishing.{write_calls, switch_calls};
 ghost use Rattle.ldb_script.specs.declared.opening.OpenError.TheVariants as open_errors;
 ghost use Rattle.ldb_script.specs.Stored.{log_path, current_path, temporary_path, first_manifest, first_current};
 ghost use Rattle.ldb_script.specs.Opening.{SeenStay, IsFree, open_error, MakesOr, Leads, IsHindered, file_calls, manifest_calls, log_calls, filling_calls};
-ghost use Rattle.ldb_script.specs.Filling.{IsFreeFolder, AddsFile, HasManifest, HasCurrent, HasStore};
+ghost use Rattle.ldb_script.specs.Filling.{IsFreeFolder, AddsFile, Fills, HasManifest, HasTemporary, HasCurrent, HasStore};
 
 use lsm_bytes::{Bytes, NoMemory};
 use lsm_disk::{Disk, DiskCall, DiskError, DiskRefusal};
 use lsm_frame::FrameWriter;
 use lsm_names::{FileName, Folder, Path};
-use lsm_publish::publish;
+use lsm_publish::{switch, write_temporary};
 use lsm_wal::Wal;
 use std::alloc::Global;
 
 /// The number of the manifest's file.
-const MANIFEST: u64 = 1;
+pub(crate) const MANIFEST: u64 = 1;
 
 /// The number of the log's file.
-const LOG: u64 = 2;
+pub(crate) const LOG: u64 = 2;
 
 /// The first edit of a manifest: the log's number (field 1) is 2, the next file's (2) is 3, and the last sequence in
 /// tables (3) is 0.
@@ -104,7 +106,7 @@ fn write_file<D: Disk>(disk: &mut D, path: &Path, bytes: &[u8]) -> Result<(), Op
 // Makes the folder and the manifest in it.
 fn make_manifest<D: Disk>(disk: &mut D, folder: &Folder, text: &[u8]) -> Result<(), OpenError>
     requires { text.now ≡ first_manifest }
-    ensures made { OnOk result (Leads (IsFreeFolder folder.now) (λ s. HasManifest folder.now) (D.seen disk.old).told (D.seen disk.new).told) }
+    ensures made { OnOk result (Leads (IsFreeFolder folder.now) (Fills folder.now (HasManifest folder.now)) (D.seen disk.old).told (D.seen disk.new).told) }
     ensures refused { IfErr result (IsHindered (manifest_calls folder.now) (IsFreeFolder folder.now) (D.seen disk.old) (D.seen disk.new)) }
     ensures counts { SeenStay (D.seen disk.old) (D.seen disk.new) }
 {
@@ -116,16 +118,30 @@ fn make_manifest<D: Disk>(disk: &mut D, folder: &Folder, text: &[u8]) -> Result<
     Ok(())
 }
 
-// Publishes these bytes as `CURRENT`. Its syncs of names make the folder's and the manifest's names outlive each crash too.
-fn name_manifest<D: Disk>(disk: &mut D, folder: &Folder, text: &[u8]) -> Result<(), OpenError>
+// Writes these bytes under the temporary name of `CURRENT`. Its sync of names makes the folder's and the manifest's names
+// outlive each crash too.
+fn write_current<D: Disk>(disk: &mut D, folder: &Folder, text: &[u8]) -> Result<(), OpenError>
     requires { text.now ≡ first_current }
-    ensures made { OnOk result (Leads (HasManifest folder.now) (λ s. HasCurrent folder.now) (D.seen disk.old).told (D.seen disk.new).told) }
-    ensures refused { IfErr result (IsHindered (publish_calls (temporary_path folder.now) (current_path folder.now)) (HasManifest folder.now) (D.seen disk.old) (D.seen disk.new)) }
+    ensures made { OnOk result (Leads (HasManifest folder.now) (Fills folder.now (HasTemporary folder.now)) (D.seen disk.old).told (D.seen disk.new).told) }
+    ensures refused { IfErr result (IsHindered (write_calls (temporary_path folder.now)) (HasManifest folder.now) (D.seen disk.old) (D.seen disk.new)) }
+    ensures counts { SeenStay (D.seen disk.old) (D.seen disk.new) }
+{
+    let temporary = folder.file(&FileName::Temp(MANIFEST));
+    match write_temporary(disk, &temporary, text) {
+        Ok(()) => Ok(()),
+        Err(DiskRefusal { at, why }) => Err(open_refused(at.call, &at.path, why)),
+    }
+}
+
+// Gives `CURRENT` its name.
+fn name_current<D: Disk>(disk: &mut D, folder: &Folder) -> Result<(), OpenError>
+    ensures made { OnOk result (Leads (HasTemporary folder.now) (Fills folder.now (HasCurrent folder.now)) (D.seen disk.old).told (D.seen disk.new).told) }
+    ensures refused { IfErr result (IsHindered (switch_calls (current_path folder.now)) (HasTemporary folder.now) (D.seen disk.old) (D.seen disk.new)) }
     ensures counts { SeenStay (D.seen disk.old) (D.seen disk.new) }
 {
     let temporary = folder.file(&FileName::Temp(MANIFEST));
     let path = folder.file(&FileName::Current);
-    match publish(disk, &temporary, &path, text) {
+    match switch(disk, &temporary, &path) {
         Ok(()) => Ok(()),
         Err(DiskRefusal { at, why }) => Err(open_refused(at.call, &at.path, why)),
     }
@@ -134,7 +150,7 @@ fn name_manifest<D: Disk>(disk: &mut D, folder: &Folder, text: &[u8]) -> Result<
 // Makes the empty log.
 fn make_log<D: Disk>(alloc: Global, disk: &mut D, folder: &Folder) -> Result<Wal, OpenError>
     ensures log { IfOk result (λ wal. wal ≡ record { path = log_path folder.now; len = 0 }) }
-    ensures made { OnOk result (Leads (HasCurrent folder.now) (λ s. HasStore folder.now) (D.seen disk.old).told (D.seen disk.new).told) }
+    ensures made { OnOk result (Leads (HasCurrent folder.now) (Fills folder.now (HasStore folder.now)) (D.seen disk.old).told (D.seen disk.new).told) }
     ensures refused { IfErr result (IsHindered (log_calls folder.now) (HasCurrent folder.now) (D.seen disk.old) (D.seen disk.new)) }
     ensures counts { SeenStay (D.seen disk.old) (D.seen disk.new) }
 {
@@ -147,14 +163,15 @@ fn make_log<D: Disk>(alloc: Global, disk: &mut D, folder: &Folder) -> Result<Wal
 // Makes the folder and its files. The bytes are made first, so that want of memory for them leaves nothing.
 fn make_files<D: Disk>(alloc: Global, disk: &mut D, folder: &Folder) -> Result<Wal, OpenError>
     ensures log { IfOk result (λ wal. wal ≡ record { path = log_path folder.now; len = 0 }) }
-    ensures made { OnOk result (Leads (IsFreeFolder folder.now) (λ s. HasStore folder.now) (D.seen disk.old).told (D.seen disk.new).told) }
+    ensures made { OnOk result (Leads (IsFreeFolder folder.now) (Fills folder.now (HasStore folder.now)) (D.seen disk.old).told (D.seen disk.new).told) }
     ensures refused { IfErr result (IsHindered (filling_calls folder.now) (IsFreeFolder folder.now) (D.seen disk.old) (D.seen disk.new)) }
     ensures counts { SeenStay (D.seen disk.old) (D.seen disk.new) }
 {
     let manifest = manifest_text(alloc)?;
     let current = current_text(alloc)?;
     make_manifest(disk, folder, manifest.as_slice())?;
-    name_manifest(disk, folder, current.as_slice())?;
+    write_current(disk, folder, current.as_slice())?;
+    name_current(disk, folder)?;
     make_log(alloc, disk, folder)
 }
 
@@ -163,8 +180,11 @@ pub fn make_new<D: Disk>(alloc: Global, disk: &mut D, folder: &Folder) -> Result
     ensures log { IfOk result (λ wal. wal ≡ record { path = log_path folder.now; len = 0 }) }
     ensures made { MakesOr folder.now (D.seen disk.old) (D.seen disk.new) result }
     ensures free { OnOk result (IsFree folder.now (D.seen disk.old)) }
+    ensures lawful { OnOk result (TellsLawful (D.seen disk.old)) }
+    ensures named { IsTrue (is_folder_name folder.now) }
     ensures counts { SeenStay (D.seen disk.old) (D.seen disk.new) }
 {
+    prove!(folder.as_bytes().len() <= 64);
     let path = folder.path();
     match disk.kind(&path) {
         Ok(None) => make_files(alloc, disk, folder),

@@ -1,16 +1,20 @@
 //! A store of one log: its pairs in memory, and each accepted batch as one record of the log.
 //! It is opened in a folder that it makes, and never over one that it finds.
-ghost use Rattle.std.specs.Prelude.{◌≡◌, ◌≤◌, ◌<◌, ◌+◌, ◌^◌, ℕ, List, Option, length, OnOk, IfOk, IfErr};
+ghost use Rattle.std.specs.Prelude.{◌≡◌, ◌≤◌, ◌<◌, ◌+◌, ◌^◌, ℕ, List, Option, length, OnOk, IfOk, IfErr, IfSome, IsTrue};
 ghost use Rattle.std.specs.Option.{option_map};
 ghost use Rattle.std.specs.FinMap as finite;
 ghost use Rattle.lsm_disk.specs.State.{Story};
 ghost use Rattle.ldb_script.specs.declared.store.StoreError.TheVariants as store_errors;
 
-use crate::contents::Pairs;
+use crate::files::{close_files, open_files};
+use crate::listing::scan_text;
 use crate::opening::{OpenError, make_new};
+use crate::restoring::{refuse_name, restore_onto};
+use bk_engine::{BackupEngine, EngineError, PlainFiles};
 use lsm_bytes::{Bytes, NoMemory};
 use lsm_disk::{Disk, DiskCall, DiskError, DiskRefusal};
 use lsm_names::{Folder, Path};
+use lsm_recover::{FolderError, Found, Pairs, read_folder};
 use lsm_rows::Batch;
 use lsm_wal::Wal;
 use std::alloc::Global;
@@ -40,30 +44,35 @@ impl From<NoMemory> for StoreError {
     }
 }
 
-/// A store over a disk, which it owns. Contracts see what is seen of the disk, the log's path and length, the pairs, and
+/// A store over a disk, which it owns, in a folder of its own. Contracts see what is seen of the disk, the log's path and length, the pairs, and
 /// the last sequence.
 pub struct Store<D: Disk> {
+    alloc: Global,
     disk: D,
+    home: Folder,
     wal: Wal,
     pairs: Pairs,
     sequence: u64,
 }
 
 impl<D: Disk> Model for Store<D> {
-    ghost use Rattle.ldb_script.specs.Stored.{Shown, coded_shown};
+    ghost use Rattle.std.specs.Prelude.{◌≡◌};
+    ghost use Rattle.ldb_script.specs.Stored.{Shown, coded_shown, log_path};
 
     ghost Value = { Shown };
 
     ghost coded = { coded_shown };
 
     ghost view = { λ s. record { disk = D.seen s.disk; log = s.wal.path; len = s.wal.len; contents = s.pairs; sequence = s.sequence } };
+
+    ghost invariant = { λ s. s.wal.path ≡ log_path s.home };
 }
 
 ghost use Rattle.ldb_script.specs.Printed.{scan_text};
 ghost use Rattle.ldb_script.specs.Opening.{SeenStay, store_error};
 
 // A disk's refusal of a call that an opened store made.
-fn store_refused(call: DiskCall, path: &Path, error: DiskError) -> StoreError
+pub(crate) fn store_refused(call: DiskCall, path: &Path, error: DiskError) -> StoreError
     ensures { result ≡ store_error call path.now error }
 {
     match error {
@@ -79,9 +88,17 @@ fn store_refused(call: DiskCall, path: &Path, error: DiskError) -> StoreError
 
 impl<D: Disk> Store<D> {
     ghost use Rattle.std.specs.Prelude.{[]};
-    ghost use Rattle.ldb_script.specs.Plain.{Outcome};
+    ghost use Rattle.lsm_recover.specs.Causes.{HasFolderCause};
+    ghost use Rattle.ldb_script.specs.Plain.{Outcome, standing_of};
     ghost use Rattle.ldb_script.specs.Stored.{Stands};
-    ghost use Rattle.ldb_script.specs.Opening.{IsOpened, IsUnopened, HasRoom, ByOneLine, Writes, Syncs};
+    ghost use Rattle.ldb_script.specs.Opening.{IsOpened, IsUnopened, HasRoom, ByOneLine, Writes, Syncs, ReadsAs, IsBroken, IsUntouched};
+    ghost use Rattle.ldb_script.specs.Files.{HasFiles};
+    ghost use Rattle.ldb_script.specs.Vaults.{Keeps};
+    ghost use Rattle.ldb_script.specs.Restoring.{RestoresOr};
+    ghost use Rattle.lsm_io.specs.Causes.{Rose};
+    ghost use Rattle.lsm_names.specs.FileNames.{is_file_number};
+    ghost use Rattle.bk_engine.specs.Creating.{plain_names};
+    ghost use Rattle.bk_engine.specs.Preparing.{plain_views, faults_of};
 
     /// A store in a new folder of this name, with a manifest, `CURRENT` and an empty log. The folder's name is free before,
     /// or the opening is refused. A refused opening leaves what it made.
@@ -93,7 +110,9 @@ impl<D: Disk> Store<D> {
     {
         match make_new(alloc, &mut disk, folder) {
             Ok(wal) => Ok(Store {
+                alloc,
                 disk,
+                home: *folder,
                 wal,
                 pairs: Pairs::new(alloc),
                 sequence: 0,
@@ -135,6 +154,86 @@ impl<D: Disk> Store<D> {
         Ok(())
     }
 
+    /// What the folder of this name on the store's disk holds now, read from the disk. It writes nothing.
+    pub fn show(&mut self, name: &Folder) -> Result<Found, FolderError>
+        ensures stands { (start : Option Story) (outcome : Outcome) → Stands start self.old outcome → Stands start self.new outcome }
+        ensures shown { (start : Option Story) (outcome : Outcome) → Stands start self.old outcome → ReadsAs (standing_of outcome.after name.now) result }
+        ensures cause { HasFolderCause name.now self.old.disk self.new.disk result }
+        ensures line { ByOneLine self.old self.new }
+    {
+        prove!(name.as_bytes().len() <= 64);
+        read_folder(self.alloc, &mut self.disk, &name.path())
+    }
+
+    /// Views of the store's files, for a backup: the log, where it isn't empty, `CURRENT` and the manifest, each whole. It
+    /// writes nothing, and the views have had no fault. After a refusal the store is not used again.
+    pub fn files(&mut self) -> Result<PlainFiles<D::View>, StoreError>
+        ensures stands { (start : Option Story) (outcome : Outcome) → Stands start self.old outcome → Stands start self.new outcome }
+        ensures views { IfOk result (λ files. (start : Option Story) (outcome : Outcome) → Stands start self.old outcome
+            → HasFiles start outcome.accepted (plain_names (option_map (λ file. file.number) files.log) files.manifest.number) (plain_views (option_map (λ file. D.View.viewed file.view) files.log) (D.View.viewed files.current) (D.View.viewed files.manifest.view))) }
+        ensures fresh { IfOk result (λ files. faults_of (plain_views (option_map (λ file. D.View.viewed file.view) files.log) (D.View.viewed files.current) (D.View.viewed files.manifest.view)) ≡ 0) }
+        ensures log { IfOk result (λ files. IfSome files.log (λ file. IsTrue (is_file_number file.number))) }
+        ensures manifest { IfOk result (λ files. IsTrue (is_file_number files.manifest.number)) }
+        ensures refused { IfErr result (λ error. (start : Option Story) (outcome : Outcome) → Stands start self.old outcome → IsBroken start self.old self.new error) }
+        ensures line { ByOneLine self.old self.new }
+    {
+        let files = open_files(&mut self.disk, &self.home, self.wal.path(), self.wal.len())?;
+        Ok(files)
+    }
+
+    /// Takes views of files back. One that had a fault raises the disk's count of faults.
+    pub fn take_back(&mut self, files: PlainFiles<D::View>)
+        ensures stands { (start : Option Story) (outcome : Outcome) → Stands start self.old outcome → Stands start self.new outcome }
+        ensures faults { 0 < faults_of (plain_views (option_map (λ file. D.View.viewed file.view) files.log) (D.View.viewed files.current) (D.View.viewed files.manifest.view)) → Rose self.old.disk.faults self.new.disk.faults }
+        ensures untouched { IsUntouched self.old self.new }
+        ensures counts { SeenStay self.old.disk self.new.disk }
+    {
+        close_files(&mut self.disk, files);
+    }
+
+    /// Restores a backup of an engine into the new folder of this name beside the store, and gives the sequence number of
+    /// its store. A name that is the store's own is taken. After a fault or want of memory the store is not used again.
+    pub fn restore<B: Disk>(
+        self,
+        engine: &mut BackupEngine<B>,
+        id: u32,
+        name: &Folder,
+    ) -> (Store<D>, Result<u64, EngineError>)
+        ensures restored { (start backups : Option Story) (outcome : Outcome) → Stands start self outcome → Keeps backups engine.old.disk engine.old outcome.after
+            → RestoresOr start self result.0 engine.old.disk engine.new.disk outcome id name.now result.1 }
+        ensures told { engine.new.disk.told ≡ engine.old.disk.told }
+        ensures metas { engine.new.metas ≡ engine.old.metas }
+        ensures given { engine.new.given ≡ engine.old.given }
+        ensures halt { engine.new.halt ≡ engine.old.halt }
+        ensures vault { SeenStay engine.old.disk engine.new.disk }
+        ensures line { ByOneLine self result.0 }
+    {
+        if name.as_bytes() == self.home.as_bytes() {
+            let why = refuse_name(self.alloc, engine, id, name);
+            return (self, Err(why));
+        }
+        let Store {
+            alloc,
+            disk,
+            home,
+            wal,
+            pairs,
+            sequence,
+        } = self;
+        let (disk, result) = restore_onto(alloc, disk, engine, id, name);
+        (
+            Store {
+                alloc,
+                disk,
+                home,
+                wal,
+                pairs,
+                sequence,
+            },
+            result,
+        )
+    }
+
     /// The value of a key.
     pub fn get(&self, key: &[u8]) -> Option<&[u8]>
         ensures { option_map (λ value. value.now) result ≡ finite.get self.now.contents key.now }
@@ -160,7 +259,7 @@ impl<D: Disk> Store<D> {
     pub fn scan(&self) -> Result<Bytes, NoMemory>
         ensures { IfOk result (λ text. text ≡ scan_text (finite.entries self.now.contents)) }
     {
-        self.pairs.scan()
+        scan_text(self.alloc, &self.pairs)
     }
 
     /// Hands the disk back.
@@ -168,7 +267,9 @@ impl<D: Disk> Store<D> {
         ensures { D.seen result ≡ self.disk }
     {
         let Store {
+            alloc: _,
             disk,
+            home: _,
             wal: _,
             pairs: _,
             sequence: _,

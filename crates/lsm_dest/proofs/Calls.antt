@@ -186,7 +186,7 @@ module _ (folder : List ℕ) (root : parent_of folder ≡ []) where
 
       begun_made : {o1 o2 : Option Story} → o1 ≡ Some story → Makes o1 (folder_made folder) o2 → Went story o2 FQ FP (λ x. IsBuilding s (just_begun folder) [] x)
       begun_made tells makes = went_weaker New (λ x. IsBuilding s (just_begun folder) [] x) (λ x new. new.1)
-          (went_ok Was New (folder_made folder) makes (λ x is. folder_itself folder) step_begin new_shows (not_begun folder story tells))
+          (went_ok Was New (folder_made folder) makes (λ x is. (folder_itself folder, refl)) step_begin new_shows (not_begun folder story tells))
 
     module _ {o1 : Option Story} (tells : o1 ≡ Some story) (lawful : IfSome o1 (λ x. IsLawful (state_of x))) where
       lawful_here : IsLawful s

@@ -45,7 +45,7 @@ not_under folder path other out inside = by_rest (under other path) refl where
   by_rest (Some rest) e = let clash : false ≡ true = sym out ∙ in_trans folder other path rest inside e in cc
 
 op_spares : (folder path : List ℕ) (op : NameOp) → NamesWithin folder op → is_in folder path ≡ false → OpSpares path op
-op_spares folder path (Put other node) within out = not_in folder path other out within
+op_spares folder path (Put other node) within out = not_in folder path other out within.0
 op_spares folder path (Gone other) within out = not_in folder path other out within
 op_spares folder path (Moved from to) within out = (not_in folder path from out within.0, not_in folder path to out within.1, not_under folder path from out within.0, not_under folder path to out within.1)
 

@@ -31,9 +31,9 @@ sealed bytes = record { synced = bytes; unsynced = [] }
 
 -- ---- which names are touched
 
--- what is named is the folder or inside it
+-- What is named is the folder or inside it, and no file gets another name.
 abbrev pub NamesWithin : List ℕ → NameOp → Type 0
-NamesWithin folder (Put path node) = is_in folder path ≡ true
+NamesWithin folder (Put path node) = (is_in folder path ≡ true) × (node ≡ Folder_node)
 NamesWithin folder (Gone path) = is_in folder path ≡ true
 NamesWithin folder (Moved from to) = (is_in folder from ≡ true) × (is_in folder to ≡ true)
 

@@ -29,6 +29,7 @@ use Rattle.lsm_model.specs.declared.states.State.{State}
 use Rattle.lsm_model.specs.declared.states.PinnedFile.{PinnedFile}
 use Rattle.lsm_model.specs.declared.states.Holder.{Holder}
 use Rattle.lsm_model.specs.declared.states.Holder.TheVariants.{Caller, Checkpoint}
+use Rattle.lsm_model.specs.States.{built_by}
 use Rattle.lsm_model.specs.Moves.{Becomes, Settles, Flushes, Halts, HaltsSettling, FailsToRead, Fails, FailsSettling}
 use Rattle.lsm_model.specs.Answers.{Answers, Done, Failed, Wanting, Refused, MayFlush, FailsFlushing, AnswersFlushing, Usual, No_number, No_place}
 use Rattle.lsm_model.specs.Steps as Steps
@@ -196,7 +197,7 @@ module _ (s t : State) where
 -- ---- events that move it
 
 -- a core with one pin more
-abbrev with_new_pin : Holder → List PinnedFile → Core → Core
+abbrev pub with_new_pin : Holder → List PinnedFile → Core → Core
 with_new_pin holder files s = record s {
   pins = s.pins ++ (record { number = s.greatest_pin + 1; batches = length s.accepted; files = files; holder = holder }) ∷ [];
   greatest_pin = s.greatest_pin + 1;
@@ -262,7 +263,7 @@ module _ (s t : State) where
   checkpoint_step_moves : (pin : ℕ) (o : Option (Result Bool StoreError)) → Given o (λ result. checkpoints.StepsCheckpoint s pin result t) → Moves (core s) (core t) []
   checkpoint_step_moves pin None h = absurd h
   checkpoint_step_moves pin (Some result) h = elim h [
-    | Done more is known d ↦ Progressed pin d.pin (Checkpoint d.dir d.now) refl d.job.found (becomes_same d.rest)
+    | Done more is known d ↦ Progressed pin d.pin (Checkpoint d.dir d.now) refl d.job.found (ap built_by (sym d.job.holder)) (becomes_same d.rest)
     | Failed is known f ↦ Same refl (fails_same f)
     | Wanting is known w ↦ Same refl (becomes_same w)
     | Refused e is known w ↦ Same refl (stays_same s t w)

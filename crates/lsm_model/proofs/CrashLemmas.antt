@@ -38,7 +38,7 @@ pub sure_stay : (s t : State) (name : List ℕ) (folder : FolderRead) → Crashe
 sure_stay s t name folder c found sure = c.folders name folder found sure
 
 -- a free name is no folder's
-no_folder : (dir : List ℕ) (s : State) → is_taken dir s ≡ false → folder_of dir s.folders ≡ None
+pub no_folder : (dir : List ℕ) (s : State) → is_taken dir s ≡ false → folder_of dir s.folders ≡ None
 unfolding is_taken
 no_folder dir s free =
     elim (folder_of dir s.folders) as (λ o. (bytes_eq s.own dir || is_some o) ≡ false → o ≡ None) [

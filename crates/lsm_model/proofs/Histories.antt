@@ -12,7 +12,7 @@ use Rattle.lsm_model.specs.declared.states.Pin.{Pin}
 use Rattle.lsm_model.specs.declared.states.PinnedFile.{PinnedFile}
 use Rattle.lsm_model.specs.declared.states.FolderRead.{FolderRead}
 use Rattle.lsm_model.specs.declared.states.Holder.{Holder}
-use Rattle.lsm_model.specs.States.{shown_at, last_of, pin_of, with_pin, without_pin, folder_of}
+use Rattle.lsm_model.specs.States.{shown_at, last_of, built_by, pin_of, with_pin, without_pin, folder_of}
 use Rattle.lsm_model.specs.Steps.{Step, Run}
 use Rattle.lsm_model.specs.Runs.{Core, core, Moves, Same, Wrote, Pinned, Spent, Unpinned, Stepped, Published, Counted, added_by, accepted_in}
 use Rattle.lsm_model.proofs.Cores.{moved}
@@ -35,7 +35,7 @@ module _ (a b : Core) (batches : List (List Op)) where
     | Pinned holder files none is ↦ stays none (ap (λ (c : Core). c.accepted) is)
     | Spent none is ↦ stays none (ap (λ (c : Core). c.accepted) is)
     | Unpinned number none is ↦ stays none (ap (λ (c : Core). c.accepted) is)
-    | Stepped number pin holder none found is ↦ stays none (ap (λ (c : Core). c.accepted) is)
+    | Stepped number pin holder none found same is ↦ stays none (ap (λ (c : Core). c.accepted) is)
     | Published number folder none is ↦ stays none (ap (λ (c : Core). c.accepted) is)
     | Counted count none is ↦ stays none (ap (λ (c : Core). c.accepted) is)
   ]
@@ -48,7 +48,7 @@ module _ (a b : Core) (batches : List (List Op)) where
     | Pinned holder files none is ↦ (ap (λ (c : Core). c.own) is, ap (λ (c : Core). c.opening) is, ap (λ (c : Core). c.began) is)
     | Spent none is ↦ (ap (λ (c : Core). c.own) is, ap (λ (c : Core). c.opening) is, ap (λ (c : Core). c.began) is)
     | Unpinned number none is ↦ (ap (λ (c : Core). c.own) is, ap (λ (c : Core). c.opening) is, ap (λ (c : Core). c.began) is)
-    | Stepped number pin holder none found is ↦ (ap (λ (c : Core). c.own) is, ap (λ (c : Core). c.opening) is, ap (λ (c : Core). c.began) is)
+    | Stepped number pin holder none found same is ↦ (ap (λ (c : Core). c.own) is, ap (λ (c : Core). c.opening) is, ap (λ (c : Core). c.began) is)
     | Published number folder none is ↦ (ap (λ (c : Core). c.own) is, ap (λ (c : Core). c.opening) is, ap (λ (c : Core). c.began) is)
     | Counted count none is ↦ (ap (λ (c : Core). c.own) is, ap (λ (c : Core). c.opening) is, ap (λ (c : Core). c.began) is)
   ]
@@ -88,67 +88,70 @@ shown_stays s t count steps run within =
 
 -- ---- pins
 
--- a pin that is gone, or has these batches and files
-abbrev pub HasOnly : ℕ → List PinnedFile → Option Pin → Type 0
-HasOnly batches files None = Unit {0}
-HasOnly batches files (Some pin) = (pin.batches ≡ batches) × (pin.files ≡ files)
+-- a pin that is gone, or has these batches and files, and builds this folder or none
+abbrev pub HasOnly : ℕ → List PinnedFile → Option (List ℕ) → Option Pin → Type 0
+HasOnly batches files built None = Unit {0}
+HasOnly batches files built (Some pin) = (pin.batches ≡ batches) × (pin.files ≡ files) × (built_by pin.holder ≡ built)
 
 -- the same of a number that is given already
-pub record IsHeld (number batches : ℕ) (files : List PinnedFile) (a : Core) : Type 0 where
+pub record IsHeld (number batches : ℕ) (files : List PinnedFile) (built : Option (List ℕ)) (a : Core) : Type 0 where
   pub given : number ≤ a.greatest_pin
-  pub only : HasOnly batches files (pin_of number a.pins)
+  pub only : HasOnly batches files built (pin_of number a.pins)
 
-module _ (number batches : ℕ) (files : List PinnedFile) (a : Core) (held : IsHeld number batches files a) where
-  along : (b : Core) → a.greatest_pin ≤ b.greatest_pin → pin_of number b.pins ≡ pin_of number a.pins → IsHeld number batches files b
-  along b later same = record { given = omega (arith, held.given, later); only = subst (HasOnly batches files) (sym same) held.only }
+module _ (number batches : ℕ) (files : List PinnedFile) (built : Option (List ℕ)) (a : Core) (held : IsHeld number batches files built a) where
+  along : (b : Core) → a.greatest_pin ≤ b.greatest_pin → pin_of number b.pins ≡ pin_of number a.pins → IsHeld number batches files built b
+  along b later same = record { given = omega (arith, held.given, later); only = subst (HasOnly batches files built) (sym same) held.only }
 
-  unpinned : (other : ℕ) → HasOnly batches files (pin_of number (without_pin other a.pins))
-  unpinned other = elim (other == number) as (λ b. (other == number) ≡ b → HasOnly batches files (pin_of number (without_pin other a.pins))) [
-    | true ↦ λ test. subst (λ (n : ℕ). HasOnly batches files (pin_of number (without_pin n a.pins))) (sym (same_if other number test)) (subst (HasOnly batches files) (sym (gone number a.pins)) tt)
-    | false ↦ λ test. subst (HasOnly batches files) (sym (others_stay number other a.pins (λ e. not_if other number test (sym e)))) held.only
+  unpinned : (other : ℕ) → HasOnly batches files built (pin_of number (without_pin other a.pins))
+  unpinned other = elim (other == number) as (λ b. (other == number) ≡ b → HasOnly batches files built (pin_of number (without_pin other a.pins))) [
+    | true ↦ λ test. subst (λ (n : ℕ). HasOnly batches files built (pin_of number (without_pin n a.pins))) (sym (same_if other number test)) (subst (HasOnly batches files built) (sym (gone number a.pins)) tt)
+    | false ↦ λ test. subst (HasOnly batches files built) (sym (others_stay number other a.pins (λ e. not_if other number test (sym e)))) held.only
   ] refl
 
-  changed : (new : Pin) → HasOnly batches files (Some new) → HasOnly batches files (option_map (λ (p : Pin). new) (pin_of new.number a.pins))
-  changed new has = elim (pin_of new.number a.pins) as (λ o. HasOnly batches files (option_map (λ (p : Pin). new) o)) [ None ↦ tt | Some p ↦ has ]
+  changed : (new : Pin) → HasOnly batches files built (Some new) → HasOnly batches files built (option_map (λ (p : Pin). new) (pin_of new.number a.pins))
+  changed new has = elim (pin_of new.number a.pins) as (λ o. HasOnly batches files built (option_map (λ (p : Pin). new) o)) [ None ↦ tt | Some p ↦ has ]
 
-  stepped : (at : ℕ) (pin : Pin) (holder : Holder) → pin_of at a.pins ≡ Some pin → HasOnly batches files (pin_of number (with_pin (record pin { holder = holder }) a.pins))
-  stepped at pin holder found = elim (pin.number == number) as (λ b. (pin.number == number) ≡ b → HasOnly batches files (pin_of number (with_pin (record pin { holder = holder }) a.pins))) [
+  stepped : (at : ℕ) (pin : Pin) (holder : Holder) → pin_of at a.pins ≡ Some pin → built_by holder ≡ built_by pin.holder → HasOnly batches files built (pin_of number (with_pin (record pin { holder = holder }) a.pins))
+  stepped at pin holder found keeps = elim (pin.number == number) as (λ b. (pin.number == number) ≡ b → HasOnly batches files built (pin_of number (with_pin (record pin { holder = holder }) a.pins))) [
     | true ↦ λ test.
         let same : pin.number ≡ number = same_if pin.number number test in
         let here : pin_of number a.pins ≡ Some pin = ap (λ (n : ℕ). pin_of n a.pins) (sym same ∙ found_number at a.pins pin found) ∙ found in
-        let has : HasOnly batches files (Some pin) = subst (HasOnly batches files) here held.only in
-        subst (λ (n : ℕ). HasOnly batches files (pin_of n (with_pin (record pin { holder = holder }) a.pins))) same
-        (subst (HasOnly batches files) (sym (placed (record pin { holder = holder }) a.pins)) (changed (record pin { holder = holder }) has))
-    | false ↦ λ test. subst (HasOnly batches files) (sym (others_kept number (record pin { holder = holder }) a.pins (λ e. not_if pin.number number test (sym e)))) held.only
+        let has : HasOnly batches files built (Some pin) = subst (HasOnly batches files built) here held.only in
+        subst (λ (n : ℕ). HasOnly batches files built (pin_of n (with_pin (record pin { holder = holder }) a.pins))) same
+        (subst (HasOnly batches files built) (sym (placed (record pin { holder = holder }) a.pins)) (changed (record pin { holder = holder }) (has.0, has.1, keeps ∙ has.2)))
+    | false ↦ λ test. subst (HasOnly batches files built) (sym (others_kept number (record pin { holder = holder }) a.pins (λ e. not_if pin.number number test (sym e)))) held.only
   ] refl
 
-  pub moves_held : (b : Core) (added : List (List Op)) → Moves a b added → IsHeld number batches files b
+  pub moves_held : (b : Core) (added : List (List Op)) → Moves a b added → IsHeld number batches files built b
   moves_held b added m =
-      let P : Core → Type 0 = IsHeld number batches files in
+      let P : Core → Type 0 = IsHeld number batches files built in
       elim m [
         | Same none is ↦ subst P (sym is) held
         | Wrote ops one is ↦ subst P (sym is) (record { given = held.given; only = held.only })
         | Pinned holder pinned none is ↦ subst P (sym is) (record {
           given = omega (arith, held.given);
-          only = subst (HasOnly batches files) (sym (found_before number a.pins (record { number = a.greatest_pin + 1; batches = length a.accepted; files = pinned; holder = holder }) (omega (arith, held.given)))) held.only;
+          only = subst (HasOnly batches files built) (sym (found_before number a.pins (record { number = a.greatest_pin + 1; batches = length a.accepted; files = pinned; holder = holder }) (omega (arith, held.given)))) held.only;
         })
         | Spent none is ↦ subst P (sym is) (record { given = omega (arith, held.given); only = held.only })
         | Unpinned other none is ↦ subst P (sym is) (record { given = held.given; only = unpinned other })
-        | Stepped at pin holder none found is ↦ subst P (sym is) (record { given = held.given; only = stepped at pin holder found })
+        | Stepped at pin holder none found same is ↦ subst P (sym is) (record { given = held.given; only = stepped at pin holder found same })
         | Published other folder none is ↦ subst P (sym is) (record { given = held.given; only = unpinned other })
         | Counted count none is ↦ subst P (sym is) (record { given = held.given; only = held.only })
       ]
 
-run_held : (s t : State) (steps : List (Event × Reply)) (number batches : ℕ) (files : List PinnedFile) → Run s steps t → IsHeld number batches files (core s) → IsHeld number batches files (core t)
-run_held s t [] number batches files run held = subst (λ (q : State). IsHeld number batches files (core q)) (sym run) held
-run_held s t (x ∷ steps) number batches files run held =
-    run_held run.0 t steps number batches files run.2 (moves_held number batches files (core s) held (core run.0) (added_by x.0 x.1) (moved s run.0 x.0 x.1 run.1))
+run_held : (s t : State) (steps : List (Event × Reply)) (number batches : ℕ) (files : List PinnedFile) (built : Option (List ℕ)) → Run s steps t
+    → IsHeld number batches files built (core s) → IsHeld number batches files built (core t)
+run_held s t [] number batches files built run held = subst (λ (q : State). IsHeld number batches files built (core q)) (sym run) held
+run_held s t (x ∷ steps) number batches files built run held =
+    run_held run.0 t steps number batches files built run.2 (moves_held number batches files built (core s) held (core run.0) (added_by x.0 x.1) (moved s run.0 x.0 x.1 run.1))
 
 pub pin_stays : (s t : State) (steps : List (Event × Reply)) (number : ℕ) (pin later : Pin) → Run s steps t → number ≤ s.greatest_pin
-    → pin_of number s.pins ≡ Some pin → pin_of number t.pins ≡ Some later → (later.batches ≡ pin.batches) × (later.files ≡ pin.files)
+    → pin_of number s.pins ≡ Some pin → pin_of number t.pins ≡ Some later
+    → (later.batches ≡ pin.batches) × (later.files ≡ pin.files) × (built_by later.holder ≡ built_by pin.holder)
 pin_stays s t steps number pin later run given found still =
-    let held = run_held s t steps number pin.batches pin.files run (record { given = given; only = subst (HasOnly pin.batches pin.files) (sym found) (refl, refl) }) in
-    subst (HasOnly pin.batches pin.files) still held.only
+    let held = run_held s t steps number pin.batches pin.files (built_by pin.holder) run
+    (record { given = given; only = subst (HasOnly pin.batches pin.files (built_by pin.holder)) (sym found) (refl, refl, refl) }) in
+    subst (HasOnly pin.batches pin.files (built_by pin.holder)) still held.only
 
 -- ---- folders
 
@@ -161,7 +164,7 @@ moves_folder a b added name folder m found =
       | Pinned holder pinned none is ↦ subst P (sym is) found
       | Spent none is ↦ subst P (sym is) found
       | Unpinned other none is ↦ subst P (sym is) found
-      | Stepped at pin holder none here is ↦ subst P (sym is) found
+      | Stepped at pin holder none here same is ↦ subst P (sym is) found
       | Published other new none is ↦ subst P (sym is) (folder_stays name a.folders folder new found)
       | Counted count none is ↦ subst P (sym is) found
     ]

@@ -1,6 +1,6 @@
 -- What a store knows against an event refuses it.
 use Rattle.std.specs.Prelude.{◌≡◌, ◌⊎◌, ℕ, not, is_some, List, [], ◌∷◌, Option, Some, None, Result, Err}
-use Rattle.std.proofs.Common.{sym, ap, ◌∙◌, inl, inr}
+use Rattle.std.proofs.Common.{refl, sym, ap, ◌∙◌, inl, inr}
 use Rattle.lsm_model.specs.declared.errors.StoreError.{StoreError}
 use Rattle.lsm_model.specs.declared.errors.StoreError.TheVariants as error
 use Rattle.lsm_model.specs.declared.cuts.FlushRule.{FlushRule}
@@ -129,3 +129,11 @@ known_refuses s t (event.CheckpointFinish pin) r refusal h known = given_known s
 known_refuses s t (event.CheckpointStop pin) r refusal h known = given_known s t (event.CheckpointStop pin) refusal (Steps.to_checkpoint_stop r) h (λ result a. answers_known s t refusal a known)
 known_refuses s t (event.ShowPin pin) r refusal h known = given_known s t (event.ShowPin pin) refusal (Steps.to_show_pin r) h (λ result a. answers_known s t refusal a known)
 known_refuses s t (event.ReadPinned pin name) r refusal h known = given_known s t (event.ReadPinned pin name) refusal (Steps.to_read_pinned r) h (λ result a. answers_known s t refusal a known)
+
+-- what isn't refused the store knew nothing against
+by_known : (s t : State) (e : Event) (r : Reply) → Step s e r t → refusal_in e r ≡ None → (o : Option StoreError) → known_refusal e s ≡ o → o ≡ None
+by_known s t e r step passes None is = refl
+by_known s t e r step passes (Some refusal) is = absurd (never_none (known_refuses s t e r refusal step is).0 passes)
+
+pub known_passes : (s t : State) (e : Event) (r : Reply) → Step s e r t → refusal_in e r ≡ None → known_refusal e s ≡ None
+known_passes s t e r step passes = by_known s t e r step passes (known_refusal e s) refl

@@ -27,8 +27,8 @@ use Rattle.lsm_model.specs.declared.states.Pin.{Pin}
 use Rattle.lsm_model.specs.declared.states.Holder.{Holder}
 use Rattle.lsm_model.specs.declared.states.Holder.TheVariants.{Caller}
 use Rattle.lsm_model.specs.declared.cuts.Cut.{Cut}
-use Rattle.lsm_model.specs.declared.plain.PlainStore.{PlainStore}
-use Rattle.lsm_model.specs.declared.plain.PlainFolder.{PlainFolder}
+use Rattle.lsm_model.specs.declared.plain.PlainLists.{PlainLists}
+use Rattle.lsm_model.specs.declared.lookups.PlainFolder.{PlainFolder}
 use Rattle.lsm_model.specs.States.{last_of, contents_now}
 use Rattle.lsm_model.specs.Moves.{Becomes, Settles, Flushes}
 use Rattle.lsm_model.specs.Causes.{last_sequence, number_end, disable_limit, pin_limit, pins_full, refused_if, first_of, sequence_full, halted}
@@ -90,37 +90,37 @@ scanned s pairs is = Done pairs refl refl (is, same_state s)
 
 -- ---- upkeep: there are no tables
 
-none_to : (p : PlainStore) (which : Which) → upkeep.nothing_to which (state_of p) ≡ true
+none_to : (p : PlainLists) (which : Which) → upkeep.nothing_to which (state_of p) ≡ true
 unfolding is_in_shape
 none_to p which.Shape = refl
 none_to p which.All = refl
 
-pub nothing_to_compact : (p : PlainStore) (which : Which) → upkeep.BeginsCompaction (state_of p) which (Ok begun.Nothing) (state_of p)
+pub nothing_to_compact : (p : PlainLists) (which : Which) → upkeep.BeginsCompaction (state_of p) which (Ok begun.Nothing) (state_of p)
 nothing_to_compact p which = Done begun.Nothing refl refl (refl, none_to p which, refl)
 
-pub no_compaction : (p : PlainStore) → upkeep.StepsCompaction (state_of p) (Ok merge.NoJob) (state_of p)
+pub no_compaction : (p : PlainLists) → upkeep.StepsCompaction (state_of p) (Ok merge.NoJob) (state_of p)
 no_compaction p = upkeep.Usual (Done merge.NoJob refl refl (refl, refl))
 
-pub settled : (p : PlainStore) → IsPlain p → Settles (state_of p) (state_of p)
+pub settled : (p : PlainLists) → IsPlain p → Settles (state_of p) (state_of p)
 settled p is = record { rest = same_state (state_of p); durable = omega arith; within = is.durable }
 
-pub none_deleted : (p : PlainStore) → IsPlain p → p.disables ≡ 0 → upkeep.Deletes (state_of p) (Ok delete.Nothing) (state_of p)
+pub none_deleted : (p : PlainLists) → IsPlain p → p.disables ≡ 0 → upkeep.Deletes (state_of p) (Ok delete.Nothing) (state_of p)
 none_deleted p is none = Done delete.Nothing refl refl (none, settled p is)
 
 pub deletion_disabled : (s : State) → s.halt ≡ None → s.disables ≢ 0 → upkeep.Deletes s (Ok (delete.Disabled s.disables)) s
 deletion_disabled s runs some = Done (delete.Disabled s.disables) refl (ap (option_map error.Halted) runs) (refl, some, refl)
 
-pub none_frozen : (p : PlainStore) → p.frozen ≡ 0 → upkeep.StepsFlush (state_of p) (Ok flush.NoJob) (state_of p)
+pub none_frozen : (p : PlainLists) → p.frozen ≡ 0 → upkeep.StepsFlush (state_of p) (Ok flush.NoJob) (state_of p)
 none_frozen p none = upkeep.Usual (Done flush.NoJob refl refl (none, refl))
 
 -- rows leave memory
-pub flushed : (p : PlainStore) (active frozen : ℕ) → IsPlain p → Flushes (state_of p) (state_of (record p { active = active; frozen = frozen }))
+pub flushed : (p : PlainLists) (active frozen : ℕ) → IsPlain p → Flushes (state_of p) (state_of (record p { active = active; frozen = frozen }))
 flushed p active frozen is = record {
   rest = record { rest = record { rest = refl; faults = omega arith; refusals = omega arith }; durable = omega arith; within = is.durable };
   next = omega arith;
 }
 
-pub all_flushed : (p : PlainStore) → IsPlain p → p.frozen ≢ 0 → upkeep.StepsFlush (state_of p) (Ok flush.Installed) (state_of (record p { frozen = 0 }))
+pub all_flushed : (p : PlainLists) → IsPlain p → p.frozen ≢ 0 → upkeep.StepsFlush (state_of p) (Ok flush.Installed) (state_of (record p { frozen = 0 }))
 all_flushed p is some =
     upkeep.Usual (Done flush.Installed refl refl (some, record { rest = flushed p p.active 0 is; active = refl; frozen = refl; tables = omega arith }))
 
@@ -143,19 +143,19 @@ log_test s b is runs =
 pub not_frozen : (s : State) → s.halt ≡ None → upkeep.can_freeze s ≡ false → upkeep.Freezes s (Ok false) s
 not_frozen s runs is = Done false refl (log_test s false is runs) (is, refl)
 
-pub none_active : (p : PlainStore) → p.active ≡ 0 → upkeep.Freezes (state_of p) (Ok false) (state_of p)
+pub none_active : (p : PlainLists) → p.active ≡ 0 → upkeep.Freezes (state_of p) (Ok false) (state_of p)
 none_active p none = not_frozen (state_of p) refl (can_not p.active p.frozen none)
 
-pub frozen_already : (p : PlainStore) → p.frozen ≢ 0 → upkeep.Freezes (state_of p) (Ok false) (state_of p)
+pub frozen_already : (p : PlainLists) → p.frozen ≢ 0 → upkeep.Freezes (state_of p) (Ok false) (state_of p)
 frozen_already p some = not_frozen (state_of p) refl (can_not_twice p.active p.frozen some)
 
-pub no_number : (p : PlainStore) → p.active ≢ 0 → p.frozen ≡ 0 → number_end ≤ p.next → upkeep.Freezes (state_of p) (Err (error.NumbersFull p.next)) (state_of p)
+pub no_number : (p : PlainLists) → p.active ≢ 0 → p.frozen ≡ 0 → number_end ≤ p.next → upkeep.Freezes (state_of p) (Err (error.NumbersFull p.next)) (state_of p)
 no_number p some none full =
     Refused (error.NumbersFull p.next) refl
     (log_test (state_of p) true (can p.active p.frozen some none) refl ∙ ap (λ (o : Option StoreError). first_of (o ∷ [])) (test_yes _ (error.NumbersFull p.next) (le_yes number_end p.next full)))
     refl
 
-pub froze : (p : PlainStore) → IsPlain p → p.active ≢ 0 → p.frozen ≡ 0 → p.next < number_end
+pub froze : (p : PlainLists) → IsPlain p → p.active ≢ 0 → p.frozen ≡ 0 → p.next < number_end
     → upkeep.Freezes (state_of p) (Ok true) (state_of (record p { active = 0; frozen = p.active; next = p.next + 1 }))
 froze p is some none less =
     Done true refl
@@ -169,18 +169,18 @@ no_logs files rule.Always none = subst (λ (l : List CutFile). All IsNoLog (map 
 no_logs files rule.Never none = tt
 no_logs files (rule.AtLeast n) none = tt
 
-pub no_live_files : (p : PlainStore) (live : LiveFiles) → IsPlain p → live.sequence ≡ p.sequence → live.manifest_len ≡ 0 → live.files ≡ [] → ListsFiles (state_of p) false (Ok live) (state_of p)
+pub no_live_files : (p : PlainLists) (live : LiveFiles) → IsPlain p → live.sequence ≡ p.sequence → live.manifest_len ≡ 0 → live.files ≡ [] → ListsFiles (state_of p) false (Ok live) (state_of p)
 no_live_files p live is sequence len none =
     Usual (Done live refl refl (record { flushed = same_state (state_of p); sequence = sequence ∙ is.sequence; manifest_len = len; logs = no_logs live.files rule.Never none }))
 
-pub live_flushed : (p : PlainStore) (live : LiveFiles) → IsPlain p → live.sequence ≡ p.sequence → live.manifest_len ≡ 0 → live.files ≡ []
+pub live_flushed : (p : PlainLists) (live : LiveFiles) → IsPlain p → live.sequence ≡ p.sequence → live.manifest_len ≡ 0 → live.files ≡ []
     → ListsFiles (state_of p) true (Ok live) (state_of (record p { active = 0; frozen = 0 }))
 live_flushed p live is sequence len none =
     Usual (Done live refl refl (record { flushed = record { rest = flushed p 0 0 is; active = refl; frozen = refl }; sequence = sequence ∙ is.sequence; manifest_len = len; logs = no_logs live.files rule.Always none }))
 
 -- ---- writes
 
-pub synced : (p : PlainStore) (d : ℕ) → d ≡ length p.accepted.items → SyncsLog (state_of p) (Ok tt) (state_of (record p { durable = d }))
+pub synced : (p : PlainLists) (d : ℕ) → d ≡ length p.accepted.items → SyncsLog (state_of p) (Ok tt) (state_of (record p { durable = d }))
 synced p d is =
     let P : ℕ → Type 0 = λ n. SyncsLog (state_of p) (Ok tt) (state_of (record p { durable = n })) in
     subst P (sym is) (Done tt refl refl (same_state (all_durable (state_of p))))
@@ -201,7 +201,7 @@ folders_stay accepted ops (f ∷ folders) all =
     ∙ ap (λ (l : List FolderRead). plain_folder accepted f ∷ l) (folders_stay accepted ops folders (λ k d less. all (suc k) d (omega (arith, less))))
 
 -- the store with one batch more
-pub written_state : (p q : PlainStore) (ops : List Op) (sync : Bool) (n d : ℕ) → IsPlain p → q.accepted.items ≡ p.accepted.items ++ ops ∷ []
+pub written_state : (p q : PlainLists) (ops : List Op) (sync : Bool) (n d : ℕ) → IsPlain p → q.accepted.items ≡ p.accepted.items ++ ops ∷ []
     → d ≡ cond sync (length p.accepted.items + 1) p.durable
     → state_of (record p { accepted = q.accepted; sequence = n; durable = d; active = p.active + 1 }) ≡ with_batch ops sync (state_of p)
 written_state p q ops sync n d is more durable =
@@ -209,7 +209,7 @@ written_state p q ops sync n d is more durable =
     = ap (λ (l : List (List Op)). map (plain_folder l) p.folders.items) more ∙ folders_stay p.accepted.items ops p.folders.items is.folders in
     λ i. record (with_batch ops sync (state_of p)) { accepted = more i; durable = durable i; folders = folders i }
 
-pub wrote : (p q : PlainStore) (ops : List Op) (sync : Bool) (n d : ℕ) → IsPlain p → q.accepted.items ≡ p.accepted.items ++ ops ∷ []
+pub wrote : (p q : PlainLists) (ops : List Op) (sync : Bool) (n d : ℕ) → IsPlain p → q.accepted.items ≡ p.accepted.items ++ ops ∷ []
     → d ≡ cond sync (length p.accepted.items + 1) p.durable → n ≡ p.sequence + length ops → n ≤ last_sequence
     → Writes (state_of p) ops sync (Ok n) (state_of (record p { accepted = q.accepted; sequence = n; durable = d; active = p.active + 1 }))
 wrote p q ops sync n d is more durable sum fits =
@@ -219,7 +219,7 @@ wrote p q ops sync n d is more durable sum fits =
     subst P (sym (written_state p q ops sync n d is more durable))
     (Done n refl known (sum ∙ ap (λ (m : ℕ). m + length ops) is.sequence, same_state (with_batch ops sync (state_of p))))
 
-pub sequence_is_full : (p : PlainStore) (ops : List Op) (sync : Bool) (count : ℕ) → IsPlain p → count ≡ length ops → last_sequence < p.sequence + count
+pub sequence_is_full : (p : PlainLists) (ops : List Op) (sync : Bool) (count : ℕ) → IsPlain p → count ≡ length ops → last_sequence < p.sequence + count
     → Writes (state_of p) ops sync (Err (error.SequenceFull p.sequence count)) (state_of p)
 sequence_is_full p ops sync count is len full =
     let same : error.SequenceFull (last_of (state_of p)) (length ops) ≡ error.SequenceFull p.sequence count = λ i. error.SequenceFull (sym is.sequence i) (sym len i) in
@@ -229,7 +229,7 @@ sequence_is_full p ops sync count is len full =
     refl
 
 -- what is kept fits the batches still
-pub plain_written : (p q : PlainStore) (ops : List Op) (n d a : ℕ) → IsPlain p → q.accepted.items ≡ p.accepted.items ++ ops ∷ [] → d ≤ length p.accepted.items + 1
+pub plain_written : (p q : PlainLists) (ops : List Op) (n d a : ℕ) → IsPlain p → q.accepted.items ≡ p.accepted.items ++ ops ∷ [] → d ≤ length p.accepted.items + 1
     → n ≡ p.sequence + length ops → n ≤ last_sequence → IsPlain (record p { accepted = q.accepted; sequence = n; durable = d; active = a })
 plain_written p q ops n d a is more durable sum fits =
     let more_by_one : length q.accepted.items ≡ length p.accepted.items + 1 = longer p.accepted.items q.accepted.items ops more in
@@ -244,11 +244,11 @@ plain_written p q ops n d a is more durable sum fits =
 
 -- ---- cuts
 
-pub with_pin_more : (p q : PlainStore) (holder : Holder) (g : ℕ) → q.pins.items ≡ p.pins.items ++ (record { number = p.greatest_pin + 1; batches = length p.accepted.items; files = []; holder = holder }) ∷ []
+pub with_pin_more : (p q : PlainLists) (holder : Holder) (g : ℕ) → q.pins.items ≡ p.pins.items ++ (record { number = p.greatest_pin + 1; batches = length p.accepted.items; files = []; holder = holder }) ∷ []
     → g ≡ p.greatest_pin + 1 → state_of (record p { pins = q.pins; greatest_pin = g }) ≡ pinned holder [] (state_of p)
 with_pin_more p q holder g more is = λ i. record (state_of p) { pins = more i; greatest_pin = is i }
 
-pub cut_now : (p : PlainStore) (t : State) (by : FlushRule) (cut : Cut) (at : State) → IsPlain p → length p.pins.items < pin_limit → CutsAt by (state_of p) at → t ≡ pinned Caller [] at
+pub cut_now : (p : PlainLists) (t : State) (by : FlushRule) (cut : Cut) (at : State) → IsPlain p → length p.pins.items < pin_limit → CutsAt by (state_of p) at → t ≡ pinned Caller [] at
     → cut.pin ≡ p.greatest_pin + 1 → cut.sequence ≡ p.sequence → cut.files ≡ [] → Cuts (state_of p) by (Ok cut) t
 cut_now p t by cut at is room flushes state number sequence none =
     let known : first_of (halted (state_of p) ∷ pins_full (state_of p) ∷ []) ≡ None
@@ -265,16 +265,16 @@ cut_now p t by cut at is room flushes state number sequence none =
     }))
 
 -- a cut that takes the rows out of memory
-pub flushed_now : (p : PlainStore) → IsPlain p → IsFlushed (state_of p) (state_of (record p { active = 0; frozen = 0 }))
+pub flushed_now : (p : PlainLists) → IsPlain p → IsFlushed (state_of p) (state_of (record p { active = 0; frozen = 0 }))
 flushed_now p is = record { rest = flushed p 0 0 is; active = refl; frozen = refl }
 
-pub no_room : (p : PlainStore) (by : FlushRule) → length p.pins.items ≡ pin_limit → Cuts (state_of p) by (Err (error.PinsFull 64)) (state_of p)
+pub no_room : (p : PlainLists) (by : FlushRule) → length p.pins.items ≡ pin_limit → Cuts (state_of p) by (Err (error.PinsFull 64)) (state_of p)
 no_room p by full =
     Usual (Refused (error.PinsFull 64) refl
     (ap (λ (o : Option StoreError). first_of (o ∷ [])) (test_yes _ _ (le_yes pin_limit (length p.pins.items) (omega (arith, full)))) ∙ ap (λ (n : ℕ). Some (error.PinsFull n)) full)
     refl)
 
-pub plain_pinned : (p q : PlainStore) (holder : Holder) (g : ℕ) → IsPlain p → length p.pins.items < pin_limit
+pub plain_pinned : (p q : PlainLists) (holder : Holder) (g : ℕ) → IsPlain p → length p.pins.items < pin_limit
     → q.pins.items ≡ p.pins.items ++ (record { number = p.greatest_pin + 1; batches = length p.accepted.items; files = []; holder = holder }) ∷ []
     → IsPlain (record p { pins = q.pins; greatest_pin = g })
 plain_pinned p q holder g is room more =

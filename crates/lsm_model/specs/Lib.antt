@@ -1,8 +1,12 @@
 pub mod Answers
+pub mod Calls
 pub mod Causes
 pub mod Checkpoints
+pub mod Codes
+pub mod Counts
 pub mod Crashes
 pub mod Destination
+pub mod Lanes
 pub mod Moves
 pub mod Pairs
 pub mod Pins

@@ -1,5 +1,5 @@
 -- The state that a plain store is.
-use Rattle.std.specs.Prelude.{◌≡◌, ℕ, ◌≤◌, true, List, [], map, take, length, All, None, Ok}
+use Rattle.std.specs.Prelude.{◌≡◌, ℕ, ◌≤◌, true, List, [], map, take, length, All, Option, Some, None, Ok}
 use Rattle.std.specs.FinMap as finite
 use Rattle.lsm_rows.specs.declared.operations.Op.{Op}
 use Rattle.lsm_rows.specs.Replay.{replayed, sequence_after}
@@ -7,8 +7,10 @@ use Rattle.lsm_model.specs.declared.states.State.{State}
 use Rattle.lsm_model.specs.declared.states.Pin.{Pin}
 use Rattle.lsm_model.specs.declared.states.FolderRead.{FolderRead}
 use Rattle.lsm_model.specs.declared.replies.Shown.{Shown}
-use Rattle.lsm_model.specs.declared.plain.PlainStore.{PlainStore}
-use Rattle.lsm_model.specs.declared.plain.PlainFolder.{PlainFolder}
+use Rattle.lsm_model.specs.declared.plain.PlainLists.{PlainLists}
+use Rattle.lsm_model.specs.declared.lookups.PlainFolder.{PlainFolder}
+use Rattle.lsm_model.specs.declared.lookups.Job.{Job}
+use Rattle.lsm_model.specs.declared.states.Holder.TheVariants.{Checkpoint}
 use Rattle.lsm_model.specs.Causes.{last_sequence, pin_limit}
 
 -- what the first so many batches show, from nothing
@@ -20,7 +22,7 @@ abbrev pub plain_folder : List (List Op) → PlainFolder → FolderRead
 plain_folder accepted folder = record { name = folder.name; reading = Ok (plain_shown accepted folder.batches); sure = true }
 
 -- the state: it began empty, nothing is doubtful or halted, and there are no tables
-abbrev pub state_of : PlainStore → State
+abbrev pub state_of : PlainLists → State
 state_of p = record {
   own = p.own;
   opening = finite.empty;
@@ -75,10 +77,17 @@ pub record IsPlainPin (accepted : List (List Op)) (pin : Pin) : Type 0 where
   pub none : pin.files ≡ []
 
 -- what is kept beside the batches fits them
-pub record IsPlain (p : PlainStore) : Type 0 where
+pub record IsPlain (p : PlainLists) : Type 0 where
   pub sequence : p.sequence ≡ sequence_after 0 p.accepted.items
   pub last : p.sequence ≤ last_sequence
   pub durable : p.durable ≤ length p.accepted.items
   pub few : length p.pins.items ≤ pin_limit
   pub pins : All (IsPlainPin p.accepted.items) p.pins.items
   pub folders : All (λ (folder : PlainFolder). folder.batches ≤ length p.accepted.items) p.folders.items
+
+-- the pin is there, a checkpoint's, and says this of it
+pub record IsJobOf (job : Job) (found : Option Pin) : Type 0 where
+  pub pin : Pin
+  pub is : found ≡ Some pin
+  pub holder : pin.holder ≡ Checkpoint job.dir job.left
+  pub batches : pin.batches ≡ job.batches

@@ -11,7 +11,8 @@ use Rattle.lsm_model.specs.declared.states.Pin.{Pin}
 use Rattle.lsm_model.specs.declared.states.PinnedFile.{PinnedFile}
 use Rattle.lsm_model.specs.declared.states.FolderRead.{FolderRead}
 use Rattle.lsm_model.specs.declared.states.Holder.{Holder}
-use Rattle.lsm_model.specs.States.{pin_of, with_pin, without_pin}
+use Rattle.lsm_model.specs.declared.replies.Shown.{Shown}
+use Rattle.lsm_model.specs.States.{shown_after, pin_of, with_pin, without_pin, built_by}
 use Rattle.lsm_model.specs.Steps.{to_write}
 
 -- ---- the batches that steps accept
@@ -31,6 +32,10 @@ added_by other r = []
 abbrev pub accepted_in : List (Event × Reply) → List (List Op)
 accepted_in [] = []
 accepted_in (step ∷ steps) = added_by step.0 step.1 ++ accepted_in steps
+
+-- the contents and the sequence behind such steps: those of the batches that were there, and then of the accepted ones
+abbrev pub shown_behind : State → List (Event × Reply) → Shown
+shown_behind s steps = shown_after s (s.accepted ++ accepted_in steps)
 
 -- ---- the part of a state that upkeep leaves
 
@@ -65,6 +70,7 @@ pub data Moves (s t : Core) (batches : List (List Op)) : Type 0 where
       → t ≡ record s { pins = s.pins ++ (record { number = s.greatest_pin + 1; batches = length s.accepted; files = files; holder = holder }) ∷ []; greatest_pin = s.greatest_pin + 1 } → Moves s t batches
   Spent : batches ≡ [] → t ≡ record s { greatest_pin = s.greatest_pin + 1 } → Moves s t batches
   Unpinned : (number : ℕ) → batches ≡ [] → t ≡ record s { pins = without_pin number s.pins } → Moves s t batches
-  Stepped : (number : ℕ) (pin : Pin) (holder : Holder) → batches ≡ [] → pin_of number s.pins ≡ Some pin → t ≡ record s { pins = with_pin (record pin { holder = holder }) s.pins } → Moves s t batches
+  Stepped : (number : ℕ) (pin : Pin) (holder : Holder) → batches ≡ [] → pin_of number s.pins ≡ Some pin → built_by holder ≡ built_by pin.holder
+      → t ≡ record s { pins = with_pin (record pin { holder = holder }) s.pins } → Moves s t batches
   Published : (number : ℕ) (folder : FolderRead) → batches ≡ [] → t ≡ record s { pins = without_pin number s.pins; folders = s.folders ++ folder ∷ [] } → Moves s t batches
   Counted : (count : ℕ) → batches ≡ [] → t ≡ record s { disables = count } → Moves s t batches

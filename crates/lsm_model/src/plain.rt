@@ -1,21 +1,28 @@
-//! A plain store: lists, no files and no disk. It answers every event as the abstract store says, slowly, and never meets a
-//! fault. Tests of larger stores may take their answers from it.
-ghost use Rattle.std.specs.Prelude.{◌≡◌, ◌≤◌, ◌<◌, ◌+◌, ◌^◌, ◌++◌, ◌∷◌, [], ℕ, List, length, take, IfOk, OnOk, OnErr, sum_by};
+//! The lists of a plain store, and a call for each event, which answers as the abstract store says. The calls have the
+//! condition that the lists fit one another; `PlainStore` keeps it for its callers.
+ghost use Rattle.std.specs.Prelude.{◌≡◌, ◌≤◌, ◌<◌, ◌+◌, ◌^◌, ◌++◌, ◌∷◌, [], ℕ, List, length, take, MatchResult, IfOk, OnOk, OnErr, sum_by};
 ghost use Rattle.std.specs.FinMap as finite;
 ghost use Rattle.lsm_rows.specs.Replay.{replayed, sequence_after};
 ghost use Rattle.lsm_model.specs.Plain.{state_of, empty_state, IsPlain};
 ghost use Rattle.lsm_model.specs.Writes.{Writes, SyncsLog};
-ghost use Rattle.lsm_model.specs.Reads.{Gets, Scans, TellsLast};
+ghost use Rattle.lsm_model.specs.Reads.{Gets, Scans, TellsLast, TellsWantsFreeze, Shows, ShowsPin, ReadsPinned};
 ghost use Rattle.lsm_model.specs.Upkeep.{Freezes, StepsFlush, BeginsCompaction, StepsCompaction, Deletes};
-ghost use Rattle.lsm_model.specs.Pins.{Cuts, ListsFiles, Disables, Enables, pinned};
-ghost use Rattle.lsm_model.specs.Causes.{pin_limit};
+ghost use Rattle.lsm_model.specs.Pins.{Cuts, ListsFiles, Unpins, Disables, Enables, pinned, unpinned};
+ghost use Rattle.lsm_model.specs.Checkpoints.{BeginsCheckpoint, StepsCheckpoint, FinishesCheckpoint, StopsCheckpoint};
+ghost use Rattle.lsm_model.specs.States.{shown_at};
+ghost use Rattle.lsm_model.specs.Causes.{pin_limit, is_taken};
+ghost use Rattle.lsm_model.specs.Steps.{Step};
 
+use crate::lookups::{
+    PlainFolder, behind, drop_pin, find_folder, find_job, find_pin, front, has_own, is_built,
+    less_operations, less_rows, same_name,
+};
 use crate::{
-    Begun, Cut, CutFiles, Deleted, FlushRule, Flushed, Holder, LiveFiles, Pairs, Pin, Stepped,
-    StoreError, Which,
+    Begun, Cut, CutFiles, Deleted, Event, FlushRule, Flushed, Holder, JobStart, LiveFiles, Pairs,
+    Pin, Reply, Shown, Stepped, StoreError, Which,
 };
 use lsm_bytes::{Bytes, NoMemory};
-use lsm_names::Folder;
+use lsm_names::{FileName, Folder};
 use lsm_rows::Batch;
 use std::alloc::Global;
 use std::collections::LinkedList;
@@ -32,16 +39,12 @@ const PIN_LIMIT: usize = 64;
 /// How many times the deletion of files may be disabled.
 const DISABLE_LIMIT: u32 = 1_000_000;
 
-/// A finished checkpoint: it has the first so many accepted batches.
-#[derive(Drop)]
-pub struct PlainFolder {
-    name: Folder,
-    batches: u64,
-}
+/// From so many bytes of rows on the active ones should be frozen.
+const FREEZE_SIZE: usize = 1_048_576;
 
-/// A store that keeps its accepted batches as a list, and replays them to answer.
+/// The accepted batches as a list, which is replayed to answer, and what is kept beside it.
 #[derive(Drop)]
-pub struct PlainStore {
+pub struct PlainLists {
     alloc: Global,
     own: Folder,
     accepted: Vec<Batch>,
@@ -65,6 +68,15 @@ fn push_batch(accepted: &mut Vec<Batch>, batch: Batch) -> Result<(), NoMemory>
     Ok(())
 }
 
+// One folder more, or the same folders.
+fn push_folder(folders: &mut Vec<PlainFolder>, folder: PlainFolder) -> Result<(), NoMemory>
+    ensures ok { OnOk result (folders.new.items ≡ folders.old.items ++ folder ∷ []) }
+    ensures err { OnErr result (folders.new.items ≡ folders.old.items) }
+{
+    folders.push(folder)?;
+    Ok(())
+}
+
 // One pin more, or the same pins.
 fn push_pin(pins: &mut Vec<Pin>, pin: Pin) -> Result<(), NoMemory>
     ensures ok { OnOk result (pins.new.items ≡ pins.old.items ++ pin ∷ []) }
@@ -74,13 +86,13 @@ fn push_pin(pins: &mut Vec<Pin>, pin: Pin) -> Result<(), NoMemory>
     Ok(())
 }
 
-impl PlainStore {
+impl PlainLists {
     /// A new store with no pairs, in a folder of this name. It takes its memory from `alloc` as batches come in.
     pub fn new(alloc: Global, own: Folder) -> Self
         ensures plain { IsPlain result }
         ensures state { state_of result ≡ empty_state own }
     {
-        PlainStore {
+        PlainLists {
             alloc,
             own,
             accepted: Vec::new(alloc),
@@ -190,6 +202,16 @@ impl PlainStore {
         ensures { TellsLast (state_of self.now) result (state_of self.now) }
     {
         self.sequence
+    }
+
+    /// Whether the active rows count 1 MiB or more.
+    pub fn wants_freeze(&self) -> bool
+        requires { IsPlain self.now }
+        ensures { TellsWantsFreeze (state_of self.now) result (state_of self.now) }
+    {
+        let accepted = self.accepted.as_slice();
+        let older = (accepted.len() as u64).saturating_sub(self.active);
+        less_rows(FREEZE_SIZE, behind(accepted, older)) == 0
     }
 
     /// Freezes the active rows.
@@ -353,6 +375,176 @@ impl PlainStore {
         }
     }
 
+    // The last sequence of the first so many batches.
+    fn sequence_at(&self, batches: u64) -> u64
+        requires { IsPlain self.now }
+        ensures { result ≡ (shown_at (state_of self.now) batches).sequence }
+    {
+        less_operations(self.sequence, behind(self.accepted.as_slice(), batches))
+    }
+
+    // What the first so many batches read as.
+    fn shown(&self, batches: u64) -> Result<Shown, StoreError>
+        requires { IsPlain self.now }
+        ensures { MatchResult result (λ shown. shown ≡ shown_at (state_of self.now) batches) (λ refusal. refusal ≡ StoreError.NoMemory) }
+    {
+        let sequence = self.sequence_at(batches);
+        match self.contents_of(front(self.accepted.as_slice(), batches)) {
+            Ok(contents) => Ok(Shown { sequence, contents }),
+            Err(_) => Err(StoreError::NoMemory),
+        }
+    }
+
+    /// What a folder reads as: the store's own one, or a finished checkpoint.
+    pub fn show(&self, dir: &Folder) -> Result<Shown, StoreError>
+        requires { IsPlain self.now }
+        ensures { Shows (state_of self.now) dir.now result (state_of self.now) }
+    {
+        if same_name(&self.own, dir) {
+            return self.shown(self.accepted.as_slice().len() as u64);
+        }
+        match find_folder(self.folders.as_slice(), dir) {
+            Some(folder) => self.shown(folder.batches),
+            None => Err(StoreError::NoFolder { dir: dir.path() }),
+        }
+    }
+
+    /// What a pin's batches read as.
+    pub fn show_pin(&self, pin: u64) -> Result<Shown, StoreError>
+        requires { IsPlain self.now }
+        ensures { ShowsPin (state_of self.now) pin result (state_of self.now) }
+    {
+        match find_pin(self.pins.as_slice(), pin) {
+            Some(found) => self.shown(found.batches),
+            None => Err(StoreError::NoSuchPin { pin }),
+        }
+    }
+
+    /// No pin has files.
+    pub fn read_pinned(&self, pin: u64, name: FileName) -> Result<Bytes, StoreError>
+        requires { IsPlain self.now }
+        ensures { ReadsPinned (state_of self.now) pin name result (state_of self.now) }
+    {
+        match find_pin(self.pins.as_slice(), pin) {
+            Some(_) => Err(StoreError::NotInPin { pin, name }),
+            None => Err(StoreError::NoSuchPin { pin }),
+        }
+    }
+
+    // Ends a pin.
+    fn end_pin(&mut self, pin: u64)
+        requires { IsPlain self.old }
+        ensures state { state_of self.new ≡ unpinned pin (state_of self.old) }
+        ensures plain { IsPlain self.new }
+    {
+        drop_pin(&mut self.pins, pin);
+    }
+
+    /// Ends a pin of the caller's own.
+    pub fn unpin(&mut self, pin: u64) -> Result<(), StoreError>
+        requires { IsPlain self.old }
+        ensures step { Unpins (state_of self.old) pin result (state_of self.new) }
+        ensures plain { IsPlain self.new }
+    {
+        if has_own(self.pins.as_slice(), pin) {
+            self.end_pin(pin);
+            return Ok(());
+        }
+        Err(StoreError::NoSuchPin { pin })
+    }
+
+    // Whether a folder of this name is there.
+    fn is_taken(&self, dir: &Folder) -> bool
+        ensures { result ≡ is_taken dir.now (state_of self.now) }
+    {
+        if same_name(&self.own, dir) {
+            return true;
+        }
+        match find_folder(self.folders.as_slice(), dir) {
+            Some(_) => true,
+            None => false,
+        }
+    }
+
+    /// Pins all accepted batches for a folder. It flushes always, as `cut` does, and no file is to be linked or copied.
+    pub fn checkpoint_begin(
+        &mut self,
+        dir: Folder,
+        log_size_for_flush: u64,
+    ) -> Result<JobStart, StoreError>
+        requires { IsPlain self.old }
+        ensures step { BeginsCheckpoint (state_of self.old) dir log_size_for_flush result (state_of self.new) }
+        ensures plain { IsPlain self.new }
+    {
+        if is_built(self.pins.as_slice(), &dir) {
+            return Err(StoreError::UnderWay { dir });
+        }
+        if PIN_LIMIT <= self.pins.as_slice().len() {
+            return Err(StoreError::PinsFull { live: 64 });
+        }
+        if self.is_taken(&dir) {
+            return Err(StoreError::CheckpointExists { dir });
+        }
+        let sequence = self.sequence;
+        let Ok(pin) = self.add_pin(Holder::Checkpoint { dir, left: 0 }) else {
+            return Err(StoreError::NoMemory);
+        };
+        self.active = 0;
+        self.frozen = 0;
+        Ok(JobStart { pin, sequence })
+    }
+
+    /// No file is to be linked or copied.
+    pub fn checkpoint_step(&self, pin: u64) -> Result<bool, StoreError>
+        requires { IsPlain self.now }
+        ensures { StepsCheckpoint (state_of self.now) pin result (state_of self.now) }
+    {
+        match find_job(self.pins.as_slice(), pin) {
+            Some(job) => Ok(job.left > 0),
+            None => Err(StoreError::NoSuchPin { pin }),
+        }
+    }
+
+    /// The folder is there with the pin's batches, and the pin ends.
+    pub fn checkpoint_finish(&mut self, pin: u64) -> Result<u64, StoreError>
+        requires { IsPlain self.old }
+        ensures step { FinishesCheckpoint (state_of self.old) pin result (state_of self.new) }
+        ensures plain { IsPlain self.new }
+    {
+        let Some(job) = find_job(self.pins.as_slice(), pin) else {
+            return Err(StoreError::NoSuchPin { pin });
+        };
+        let taken = self.is_taken(&job.dir);
+        let sequence = self.sequence_at(job.batches);
+        self.end_pin(pin);
+        if taken {
+            return Err(StoreError::CheckpointExists { dir: job.dir });
+        }
+        let folder = PlainFolder {
+            name: job.dir,
+            batches: job.batches,
+        };
+        let Ok(()) = push_folder(&mut self.folders, folder) else {
+            return Err(StoreError::NoMemory);
+        };
+        Ok(sequence)
+    }
+
+    /// The checkpoint is given up.
+    pub fn checkpoint_stop(&mut self, pin: u64) -> Result<(), StoreError>
+        requires { IsPlain self.old }
+        ensures step { StopsCheckpoint (state_of self.old) pin result (state_of self.new) }
+        ensures plain { IsPlain self.new }
+    {
+        match find_job(self.pins.as_slice(), pin) {
+            Some(_) => {
+                self.end_pin(pin);
+                Ok(())
+            }
+            None => Err(StoreError::NoSuchPin { pin }),
+        }
+    }
+
     /// Once more.
     pub fn disable(&mut self) -> Result<u32, StoreError>
         requires { IsPlain self.old }
@@ -380,75 +572,40 @@ impl PlainStore {
         self.disables -= 1;
         Ok(self.disables)
     }
-}
 
-#[cfg(test)]
-mod tests {
-    use super::*;
-    use lsm_names::NotAName;
-    use lsm_rows::BatchRefusal;
-
-    // A batch that puts these keys, each with itself as its value.
-    fn puts(alloc: Global, keys: &[&[u8]]) -> Result<Batch, BatchRefusal> {
-        let mut batch = Batch::new(alloc);
-        for key in keys {
-            batch.put(key, key)?;
+    /// Answers any event.
+    pub fn answer(&mut self, event: Event) -> Reply
+        requires { IsPlain self.old }
+        ensures step { Step (state_of self.old) event result (state_of self.new) }
+        ensures plain { IsPlain self.new }
+    {
+        match event {
+            Event::Write { batch, sync } => Reply::Write(self.write(batch, sync)),
+            Event::SyncLog => Reply::SyncLog(self.sync_log()),
+            Event::Get { key } => Reply::Get(self.get(key.as_slice())),
+            Event::Scan => Reply::Scan(self.scan()),
+            Event::Last => Reply::Last(self.last()),
+            Event::WantsFreeze => Reply::WantsFreeze(self.wants_freeze()),
+            Event::Freeze => Reply::Freeze(self.freeze()),
+            Event::FlushStep => Reply::FlushStep(self.flush_step()),
+            Event::CompactBegin { which } => Reply::CompactBegin(self.compact_begin(which)),
+            Event::CompactStep { .. } => Reply::CompactStep(self.compact_step()),
+            Event::DeleteStep => Reply::DeleteStep(self.delete_step()),
+            Event::Cut { rule } => Reply::Cut(self.cut(rule)),
+            Event::LiveFiles { flush } => Reply::LiveFiles(self.live_files(flush)),
+            Event::Unpin { pin } => Reply::Unpin(self.unpin(pin)),
+            Event::Disable => Reply::Disable(self.disable()),
+            Event::Enable => Reply::Enable(self.enable()),
+            Event::CheckpointBegin {
+                dir,
+                log_size_for_flush,
+            } => Reply::CheckpointBegin(self.checkpoint_begin(dir, log_size_for_flush)),
+            Event::CheckpointStep { pin } => Reply::CheckpointStep(self.checkpoint_step(pin)),
+            Event::CheckpointFinish { pin } => Reply::CheckpointFinish(self.checkpoint_finish(pin)),
+            Event::CheckpointStop { pin } => Reply::CheckpointStop(self.checkpoint_stop(pin)),
+            Event::Show { dir } => Reply::Show(self.show(&dir)),
+            Event::ShowPin { pin } => Reply::ShowPin(self.show_pin(pin)),
+            Event::ReadPinned { pin, name } => Reply::ReadPinned(self.read_pinned(pin, name)),
         }
-        Ok(batch)
-    }
-
-    #[test]
-    fn writes_are_counted_and_read(rt: HostRuntime) -> Result<(), NotAName> {
-        let mut store = PlainStore::new(rt.alloc(), Folder::parse(b"db")?);
-        if let Ok(batch) = puts(rt.alloc(), &[b"a".as_slice(), b"b".as_slice()]) {
-            assert_eq!(rt; store.write(batch, false), Ok(2));
-        }
-        if let Ok(batch) = puts(rt.alloc(), &[b"a".as_slice()]) {
-            assert_eq!(rt; store.write(batch, true), Ok(3));
-        }
-        assert_eq!(rt; store.last(), 3);
-        let found = store.get(b"a");
-        assert!(rt; found.is_ok_and(|value| value.is_some()));
-        let missing = store.get(b"c");
-        assert!(rt; missing.is_ok_and(|value| value.is_none()));
-        Ok(())
-    }
-
-    #[test]
-    fn disables_are_counted(rt: HostRuntime) -> Result<(), NotAName> {
-        let mut store = PlainStore::new(rt.alloc(), Folder::parse(b"db")?);
-        assert_eq!(rt; store.disable(), Ok(1));
-        assert_eq!(rt; store.disable(), Ok(2));
-        assert_eq!(rt; store.delete_step(), Ok(Deleted::Disabled { count: 2 }));
-        assert_eq!(rt; store.enable(), Ok(1));
-        assert_eq!(rt; store.enable(), Ok(0));
-        assert_eq!(rt; store.enable(), Err(StoreError::NotDisabled));
-        assert_eq!(rt; store.delete_step(), Ok(Deleted::Nothing));
-        Ok(())
-    }
-
-    #[test]
-    fn rows_are_frozen_once(rt: HostRuntime) -> Result<(), NotAName> {
-        let mut store = PlainStore::new(rt.alloc(), Folder::parse(b"db")?);
-        assert_eq!(rt; store.freeze(), Ok(false));
-        if let Ok(batch) = puts(rt.alloc(), &[b"a".as_slice()]) {
-            assert_eq!(rt; store.write(batch, false), Ok(1));
-        }
-        assert_eq!(rt; store.freeze(), Ok(true));
-        assert_eq!(rt; store.flush_step(), Ok(Flushed::Installed));
-        assert_eq!(rt; store.flush_step(), Ok(Flushed::NoJob));
-        Ok(())
-    }
-
-    #[test]
-    fn pins_rise_from_one(rt: HostRuntime) -> Result<(), NotAName> {
-        let mut store = PlainStore::new(rt.alloc(), Folder::parse(b"db")?);
-        let first = store.cut(FlushRule::Never);
-        assert!(rt; first.is_ok_and(|cut| cut.pin == 1));
-        let second = store.cut(FlushRule::Always);
-        assert!(rt; second.is_ok_and(|cut| cut.pin == 2));
-        let third = store.cut(FlushRule::AtLeast(1));
-        assert!(rt; third.is_ok_and(|cut| cut.pin == 3));
-        Ok(())
     }
 }

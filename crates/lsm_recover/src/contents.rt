@@ -4,6 +4,7 @@ ghost use Rattle.std.specs.Option.{option_map};
 ghost use Rattle.std.specs.FinMap as finite;
 ghost use Rattle.std.specs.List.{fold};
 ghost use Rattle.lsm_rows.specs.Replay.{applied, replayed};
+ghost use Rattle.lsm_recover.specs.Contents.{contents_of};
 
 use lsm_bytes::NoMemory;
 use lsm_rows::{Batch, Op};
@@ -55,6 +56,13 @@ impl Pairs {
         ensures { result ≡ length (finite.entries self.now) }
     {
         self.values.len()
+    }
+
+    /// The pairs in the order of their keys.
+    pub fn entries(&self) -> &BTreeMap<Vec<u8>, Vec<u8>>
+        ensures { contents_of result.now.entries ≡ self.now }
+    {
+        &self.values
     }
 
     /// Takes a key out, whether it was there or not.

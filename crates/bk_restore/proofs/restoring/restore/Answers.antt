@@ -79,7 +79,7 @@ returns-in_err-restore_others-clause-right g c =
 pub returns-in_err-restore_others-clause-went : goal.returns-in_err-restore_others-clause-went
 returns-in_err-restore_others-clause-went g c story tells =
     returned_as (λ (r : Result ℕ RestoreError). Restored c.args.meta.now (g.B.Disk.seen c.args.disk.now).told (state_of story) c.args.dir.now story (g.T.Dest.seen c.restore_others.new.dest).disk.told r) c.from_residual-in_err-restore_others.result c.in_err-restore_others.field-0.0 c.from_residual-in_err-restore_others.ensures.1
-    (others_leave c.args.meta.now (g.B.Disk.seen c.args.disk.now).told (state_of story) c.args.dir.now c.in_err-restore_others.field-0.0 (c.in_ok-begin.ensures.went story tells)
+    (others_leave c.args.meta.now (g.B.Disk.seen c.args.disk.now).told (state_of story) c.args.dir.now c.in_err-restore_others.field-0.0 c.in_err-restore_others.ensures.past (c.in_ok-begin.ensures.went story tells)
     (λ next mid building. c.restore_others.ensures.went (state_of story) next c.args.dir.now mid c.in_ok-begin.ensures.ready building))
 
 pub returns-in_err-restore_others-clause-cause : goal.returns-in_err-restore_others-clause-cause
@@ -117,7 +117,7 @@ returns-in_err-restore_current-clause-went g c story tells =
     (current_leaves c.args.meta.now (g.B.Disk.seen c.args.disk.now).told (state_of story) c.args.dir.now restored.0
     (subst (λ (fs : List MetaFile). AreRestored c.args.meta.now.id (g.B.Disk.seen c.args.disk.now).told (others c.args.meta.now.id fs) restored.0) c.as_slice-files.ensures restored.1)
     (went_then {I = IsBuilding (state_of story) (just_begun c.args.dir.now) []} (c.in_ok-begin.ensures.went story tells) (λ next mid building. restored.3 (state_of story) next c.args.dir.now mid c.in_ok-begin.ensures.ready building))
-    c.in_err-restore_current.field-0.0
+    c.in_err-restore_current.field-0.0 c.in_err-restore_current.ensures.past
     (λ next mid building.
     subst (λ (fs : List MetaFile). Ended c.args.meta.now.id (g.B.Disk.seen c.args.disk.now).told (currents c.args.meta.now.id fs) (state_of story) c.args.dir.now restored.0 next (g.T.Dest.seen c.restore_current.new.dest).disk.told (Err c.in_err-restore_current.field-0.0)) c.as_slice-files.ensures
     (subst (λ (o : Option Story). Ended c.args.meta.now.id o (currents c.args.meta.now.id c.as_slice-files.result.now) (state_of story) c.args.dir.now restored.0 next (g.T.Dest.seen c.restore_current.new.dest).disk.told (Err c.in_err-restore_current.field-0.0)) c.restore_others.ensures.told

@@ -10,11 +10,11 @@ use Rattle.lsm_wal.specs.Making.{MayHaveNew}
 use Rattle.lsm_wal.specs.Shown.{Shown}
 use Rattle.lsm_wal.specs.Standing.{IsWal}
 use Rattle.ldb_script.specs.Stored.{log_path}
-use Rattle.ldb_script.specs.Filling.{HasCurrent, HasStore}
+use Rattle.ldb_script.specs.Filling.{Fills, HasCurrent, HasStore}
 use Rattle.ldb_script.specs.Opening.{IsHindered, log_calls}
 use Rattle.ldb_script.proofs.Telling.{stay, leads_by, hindered, refuses_none}
 use Rattle.ldb_script.proofs.Folders.{log_spelled, log_room}
-use Rattle.ldb_script.proofs.Opened.{has_store}
+use Rattle.ldb_script.proofs.Opened.{fills_store}
 use Rattle.ldb_script.proofs.Broken.{first_of}
 use Rattle.ldb_script.proofs.opening.make_log.Goals as goal
 
@@ -27,11 +27,11 @@ returns-in-Ok-clause-made g c =
     let seen = g.D.Disk.seen in
     let folder : List ℕ = c.args.folder.now in
     let told = (seen c.create.new.disk).told in
-    leads_by (HasCurrent folder) (λ (s : State). HasStore folder) (seen c.args.disk.now).told told
+    leads_by (HasCurrent folder) (Fills folder (HasStore folder)) (seen c.args.disk.now).told told
     (λ story tells has.
     let w : Went story told (Making (log_path folder)) (MayHaveNew (state_of story) (log_path folder)) (λ (s : State). IsWal s (log_path folder) [] 0) =
     subst (λ (p : List ℕ). Went story told (Making p) (MayHaveNew (state_of story) p) (λ (s : State). IsWal s p [] 0)) (c.file.ensures ∙ log_spelled folder) (c.in-Ok.ensures.went story tells) in
-    record { story = w.story; tells = w.tells; holds = has_store folder story told (MayHaveNew (state_of story) (log_path folder)) has w })
+    record { story = w.story; tells = w.tells; holds = fills_store folder story told (MayHaveNew (state_of story) (log_path folder)) has w })
 
 pub returns-in-Err-clause-refused : goal.returns-in-Err-clause-refused
 returns-in-Err-clause-refused g c =

@@ -6,7 +6,7 @@ use Rattle.lsm_rows.specs.declared.refusals.BatchRefusal.{BatchRefusal}
 use Rattle.lsm_rows.specs.Limits.{Refused}
 use Rattle.ldb_script.specs.Plain.{first_refusal}
 use Rattle.ldb_script.specs.Printed.{too_large_line}
-use Rattle.ldb_script.specs.Doing.{AnsweredOr, BuildsOr}
+use Rattle.ldb_script.specs.Doing.{StoreAnsweredOr, BuildsOr}
 use Rattle.ldb_script.specs.declared.line.Command.TheVariants.{Write}
 use Rattle.ldb_script.proofs.Serving.{too_large_answers}
 use Rattle.ldb_script.proofs.script.answer_write.Goals as goal
@@ -14,7 +14,7 @@ use Rattle.ldb_script.proofs.script.answer_write.Goals as goal
 pub returns-in-Ok-clause-done : goal.returns-in-Ok-clause-done
 returns-in-Ok-clause-done g c start outcome was =
     let is : c.in-Ok.batch ≡ c.args.ops.now = c.in-Ok.ensures.0 in
-    subst (λ (b : List Op). AnsweredOr start c.args.store.now c.answer_batch.new.store outcome (Write c.args.durable b) c.answer_batch.result) is
+    subst (λ (b : List Op). StoreAnsweredOr start c.args.store.now c.answer_batch.new.store outcome (Write c.args.durable b) c.answer_batch.result) is
     (c.answer_batch.ensures.done start outcome was (ap (first_refusal []) is ∙ c.in-Ok.ensures.1))
 
 pub returns-in-Err-BatchTooLarge-clause-done : goal.returns-in-Err-BatchTooLarge-clause-done

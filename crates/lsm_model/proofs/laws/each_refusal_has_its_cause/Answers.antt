@@ -1,4 +1,4 @@
-use Rattle.lsm_model.proofs.KnownLemmas.{known_refuses}
+use Rattle.lsm_model.proofs.KnownLemmas.{known_refuses, known_passes}
 use Rattle.lsm_model.proofs.RefusalLemmas.{has_cause}
 use Rattle.lsm_model.proofs.laws.each_refusal_has_its_cause.Goals as goal
 
@@ -7,3 +7,6 @@ returns-clause-known c = known_refuses
 
 pub returns-clause-cause : goal.returns-clause-cause
 returns-clause-cause c = has_cause
+
+pub returns-clause-passes : goal.returns-clause-passes
+returns-clause-passes c = known_passes

@@ -6,7 +6,7 @@ use Rattle.lsm_disk.specs.Answers.{Makes, RefusesBy}
 use Rattle.lsm_disk.specs.declared.calls.DiskCall.TheVariants.{Sync}
 use Rattle.ldb_script.specs.Stored.{Shown, Stands}
 use Rattle.ldb_script.specs.Opening.{IsBroken}
-use Rattle.ldb_script.proofs.Logs.{logs_synced, beside_synced, stands_synced}
+use Rattle.ldb_script.proofs.Logs.{logs_synced, beside_synced, folders_sure, stands_synced}
 use Rattle.ldb_script.proofs.Broken.{broken}
 use Rattle.ldb_script.proofs.store.Store.sync.Goals as goal
 
@@ -16,7 +16,8 @@ returns-clause-syncs g c start outcome was =
     let new : Shown = record { disk = g.D.Disk.seen c.sync.new.self; log = c.self.inside.wal.path; len = c.self.inside.wal.len; contents = c.self.inside.pairs; sequence = c.self.inside.sequence } in
     let stood : Stands start old outcome = subst (λ (s : Shown). Stands start s outcome) (sym c.self.view_is) was in
     let makes : Makes old.disk.told (file_synced old.log) new.disk.told = subst (λ (p : List ℕ). Makes old.disk.told (file_synced p) new.disk.told) c.path.ensures c.in_default.ensures.did in
-    stands_synced start old new outcome stood
+    stands_synced start old new outcome stood refl
+    (folders_sure start old new outcome stood makes refl)
     (logs_synced start old new outcome stood makes refl)
     (beside_synced start old new outcome stood makes refl)
     refl refl refl

@@ -7,7 +7,7 @@ use Rattle.lsm_disk.specs.Refusals.{no_file}
 use Rattle.lsm_disk.specs.Answers.{RefusesBy}
 use Rattle.ldb_script.specs.Opening.{ByOneLine, IsBroken}
 use Rattle.ldb_script.proofs.Sizes.{batch_fits}
-use Rattle.ldb_script.proofs.Logs.{logged, beside_written, log_len, stands_written}
+use Rattle.ldb_script.proofs.Logs.{logged, beside_written, folders_written, log_len, stands_written}
 use Rattle.ldb_script.proofs.Broken.{first_of, broken}
 use Rattle.ldb_script.proofs.store.Store.write.Goals as goal
 
@@ -39,7 +39,9 @@ returns-clause-writes g c start outcome was =
     let stood : Stands start old outcome = subst (λ (s : Shown). Stands start s outcome) (sym c.self.view_is) was in
     let batch = c.args.batch.now in (
       (λ i. stood.sequence i + c.len.ensures.len i),
-      stands_written start old new outcome stood batch c.args.sync
+      stands_written start old new outcome stood batch c.args.sync c.append.ensures.path
+          (folders_written start old new outcome stood batch c.args.sync
+          (λ logs. let w = c.in-Ok.ensures.went logs.story _ outcome.after.durable logs.tells (stood.len ∙ log_len outcome.accepted) logs.wal in (w.story, w.tells, _, w.goes)) c.append.ensures.path)
           (logged start old new outcome stood batch c.args.sync
           (λ logs. let w = c.in-Ok.ensures.went logs.story _ outcome.after.durable logs.tells (stood.len ∙ log_len outcome.accepted) logs.wal in (w.story, w.tells, w.now)) c.append.ensures.path)
           (beside_written start old new outcome stood batch c.args.sync

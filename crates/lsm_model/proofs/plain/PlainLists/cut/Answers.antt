@@ -1,0 +1,23 @@
+use Rattle.std.proofs.Common.{arith, sym, ap, subst, ◌∙◌, inr, length, Ok}
+use Rattle.lsm_model.specs.declared.states.State.{State}
+use Rattle.lsm_model.specs.declared.cuts.FlushRule.{FlushRule}
+use Rattle.lsm_model.specs.declared.cuts.FlushRule.TheVariants.{Never, Always, AtLeast}
+use Rattle.lsm_model.specs.Pins.{Cuts}
+use Rattle.lsm_model.specs.Plain.{state_of}
+use Rattle.lsm_model.proofs.PlainLemmas.{cut_now, no_room, flushed_now, same_state}
+use Rattle.lsm_model.proofs.plain.PlainLists.cut.Goals as goal
+
+pub returns-then-as_slice-ge-PIN_LIMIT-clause-step : goal.returns-then-as_slice-ge-PIN_LIMIT-clause-step
+returns-then-as_slice-ge-PIN_LIMIT-clause-step c = no_room c.args.self.now c.args.rule (omega (arith, c.requires.few, c.if-as_slice-ge-PIN_LIMIT.true, ap length c.as_slice.ensures.value))
+
+pub returns-in-Never-clause-step : goal.returns-in-Never-clause-step
+returns-in-Never-clause-step c = subst (λ (by : FlushRule). Cuts (state_of c.args.self.now) by (Ok c.cut_of.result) (state_of c.add_pin.new.self)) (sym c.in-Never.is)
+    (cut_now c.args.self.now (state_of c.add_pin.new.self) Never c.cut_of.result (state_of c.args.self.now) c.requires (omega (arith, c.if-as_slice-ge-PIN_LIMIT.false, ap length c.as_slice.ensures.value)) (same_state (state_of c.args.self.now)) c.in-Ok.ensures.ok (c.cut_of.ensures.pin ∙ c.in-Ok.ensures.number) c.cut_of.ensures.sequence c.cut_of.ensures.files)
+
+pub returns-in-Always-clause-step : goal.returns-in-Always-clause-step
+returns-in-Always-clause-step c = subst (λ (by : FlushRule). Cuts (state_of c.args.self.now) by (Ok c.cut_of-in-Always.result) (state_of (record c.add_pin.new.self { active = 0; frozen = 0 }))) (sym c.in-Always.is)
+    (cut_now c.args.self.now (state_of (record c.add_pin.new.self { active = 0; frozen = 0 })) Always c.cut_of-in-Always.result (state_of (record c.args.self.now { active = 0; frozen = 0 })) c.requires (omega (arith, c.if-as_slice-ge-PIN_LIMIT.false, ap length c.as_slice.ensures.value)) (flushed_now c.args.self.now c.requires) (ap (λ (s : State). record s { active = 0; frozen = 0 }) c.in-Ok.ensures.ok) (c.cut_of-in-Always.ensures.pin ∙ c.in-Ok.ensures.number) c.cut_of-in-Always.ensures.sequence c.cut_of-in-Always.ensures.files)
+
+pub returns-in-AtLeast-clause-step : goal.returns-in-AtLeast-clause-step
+returns-in-AtLeast-clause-step c = subst (λ (by : FlushRule). Cuts (state_of c.args.self.now) by (Ok c.cut_of-in-AtLeast.result) (state_of (record c.add_pin.new.self { active = 0; frozen = 0 }))) (sym c.in-AtLeast.is)
+    (cut_now c.args.self.now (state_of (record c.add_pin.new.self { active = 0; frozen = 0 })) (AtLeast c.in-AtLeast.field-0) c.cut_of-in-AtLeast.result (state_of (record c.args.self.now { active = 0; frozen = 0 })) c.requires (omega (arith, c.if-as_slice-ge-PIN_LIMIT.false, ap length c.as_slice.ensures.value)) (inr (flushed_now c.args.self.now c.requires)) (ap (λ (s : State). record s { active = 0; frozen = 0 }) c.in-Ok.ensures.ok) (c.cut_of-in-AtLeast.ensures.pin ∙ c.in-Ok.ensures.number) c.cut_of-in-AtLeast.ensures.sequence c.cut_of-in-AtLeast.ensures.files)

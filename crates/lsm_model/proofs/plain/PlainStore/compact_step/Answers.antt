@@ -1,5 +1,0 @@
-use Rattle.lsm_model.proofs.PlainLemmas.{no_compaction}
-use Rattle.lsm_model.proofs.plain.PlainStore.compact_step.Goals as goal
-
-pub returns : goal.returns
-returns c = no_compaction c.args.self.now

@@ -1,0 +1,14 @@
+pub mod CrashLemmas
+pub mod FileLemmas
+pub mod GoodLemmas
+pub mod LeadsLemmas
+pub mod LogLemmas
+pub mod NeededLemmas
+pub mod NewDiskLemmas
+pub mod NewLemmas
+pub mod OutsideLemmas
+pub mod PartsLemmas
+pub mod PinnedLemmas
+pub mod ShownLemmas
+pub mod TiedLemmas
+pub mod UnchangedLemmas

@@ -1,0 +1,70 @@
+-- What contracts see of a store: what is seen of its disk, its folder, what it keeps of itself, and the call that halted it.
+use Rattle.std.specs.Prelude.{ℕ, List, Option}
+use Rattle.std.specs.Ordering.{nat_cmp}
+use Rattle.std.specs.FinMap as finmap
+use Rattle.lsm_names.specs.declared.file_names.FileName.{FileName}
+use Rattle.lsm_rows.specs.declared.rows.Row.{Row}
+use Rattle.lsm_disk.specs.State.{Seen}
+use Rattle.lsm_disk.specs.Dest.{Begun}
+use Rattle.lsm_disk.specs.Viewed.{Viewed}
+use Rattle.lsm_disk.specs.declared.calls.Halt.{Halt}
+use Rattle.lsm_version.specs.declared.tables.Place.{Place}
+use Rattle.lsm_version.specs.Levels.{Tables}
+
+-- A checkpoint under way: the folder that it builds, how many of its pin's files aren't whole there, and how many bytes of
+-- the first of these were copied.
+pub record Job : Type 0 where
+  pub dir : List ℕ
+  pub left : ℕ
+  pub copied : ℕ
+
+-- a pin: its number, its last sequence, the manifest that its CURRENT names, its files with how many of their bytes are the
+-- pin's, and the checkpoint that it belongs to
+pub record KeptPin : Type 0 where
+  pub number : ℕ
+  pub sequence : ℕ
+  pub manifest : ℕ
+  pub files : List (FileName × ℕ)
+  pub job : Option Job
+
+-- a table that a flush or a compaction is writing: its number, and the bytes that its file was given so far
+pub record Unfinished : Type 0 where
+  pub number : ℕ
+  pub bytes : List ℕ
+
+-- What a store keeps of itself.
+pub record Kept : Type 0 where
+  -- the live tables by their numbers, the views of them, the number from which on logs are needed, and the last sequence in
+  -- tables
+  pub version : Tables
+  pub views : finmap.FinMap nat_cmp Viewed
+  pub log : ℕ
+  pub last : ℕ
+  -- the last sequence that an operation has, the rows in memory, in the order of their internal keys, and the numbers of the
+  -- live logs
+  pub sequence : ℕ
+  pub active : List Row
+  pub frozen : List Row
+  pub logs : List ℕ
+  -- the manifest's number and its length in bytes, and the next file number
+  pub manifest : ℕ
+  pub manifest_len : ℕ
+  pub next : ℕ
+  -- the names of a store's files that are in the folder
+  pub known : List FileName
+  -- the pins in the order in which they were given, the greatest number that one had, and how often deletion is disabled
+  pub pins : List KeptPin
+  pub greatest_pin : ℕ
+  pub disables : ℕ
+  -- what is under way: the tables that are written, the inputs of the compaction, and the folder that a restore builds, with
+  -- the file in hand
+  pub unfinished : List Unfinished
+  pub merging : Option (List Place)
+  pub begun : Option Begun
+  pub hand : Option FileName
+
+pub record Shown : Type 0 where
+  pub disk : Seen
+  pub dir : List ℕ
+  pub kept : Kept
+  pub halt : Option Halt

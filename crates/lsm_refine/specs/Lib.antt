@@ -1,0 +1,10 @@
+pub mod Codes
+pub mod Folders
+pub mod Fronts
+pub mod Good
+pub mod Kept
+pub mod New
+pub mod Parts
+pub mod Pins
+pub mod Sane
+pub mod Tied
