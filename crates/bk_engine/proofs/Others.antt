@@ -12,7 +12,7 @@ use Rattle.lsm_names.specs.FileNames.{spelled}
 use Rattle.lsm_names.specs.declared.file_names.FileName.{FileName}
 use Rattle.lsm_names.specs.declared.shared_names.SharedName.{SharedName}
 use Rattle.lsm_names.specs.SharedNames.{spelled_shared}
-use Rattle.lsm_names.proofs.PathLemmas.{both, list_all-weaker}
+use Rattle.lsm_names.proofs.PathLemmas.{list_all-weaker}
 use Rattle.std.specs.FinMap as map
 use Rattle.lsm_disk.specs.Names.{Node, id_of, NameOp, Put, Gone, Moved, under}
 use Rattle.lsm_disk.specs.State.{State, Story, Change, Created, Named, Appended, Synced, Names_synced, Idle, after, after_all, state_of}
@@ -43,6 +43,7 @@ use Rattle.bk_engine.specs.Preparing.{IsOwnPath, IsOwnFolder}
 use Rattle.bk_engine.specs.Publishing.{Creates}
 use Rattle.lsm_publish.specs.Publishing.{IsMove}
 use Rattle.bk_engine.proofs.PathTexts.{decimal_digits}
+use Rattle.std.proofs.lemmas.Bool.{and_parts}
 
 -- ---- identifiers in decimal
 
@@ -60,7 +61,7 @@ no_slashes id small = list_all-weaker is_ascii_digit no_slash digit_is_no_slash 
 
 with_slash : (front back : List ℕ) → list_all no_slash (front ++ 47 ∷ back) ≡ true → ⊥
 with_slash [] back h = cc
-with_slash (byte ∷ front) back h = with_slash front back (both (no_slash byte) (list_all no_slash (front ++ 47 ∷ back)) h).1
+with_slash (byte ∷ front) back h = with_slash front back (and_parts (no_slash byte) (list_all no_slash (front ++ 47 ∷ back)) h).1
 
 is_byte : (x c : ℕ) → (x == c) ≡ true → x ≡ c
 is_byte x c h = grind (arith, nat_tests)
@@ -68,12 +69,12 @@ is_byte x c h = grind (arith, nat_tests)
 -- another number is no folder of it
 under_digits : (f p : List ℕ) → list_all no_slash p ≡ true → f ≢ p → under f p ≡ None
 under_digits [] [] h ne = absurd (ne refl)
-under_digits [] (c ∷ p) h ne = by_test (c == 47) (both (no_slash c) (list_all no_slash p) h).0 where
+under_digits [] (c ∷ p) h ne = by_test (c == 47) (and_parts (no_slash c) (list_all no_slash p) h).0 where
   by_test : (b : Bool) → not b ≡ true → (if b then Some (c ∷ p) else None) ≡ None
   by_test true k = cc
   by_test false k = refl
 under_digits (x ∷ f) [] h ne = refl
-under_digits (x ∷ f) (c ∷ p) h ne = by_test (x == c) refl (λ same. under_digits f p (both (no_slash c) (list_all no_slash p) h).1 (λ e. ne (λ i. same i ∷ e i))) where
+under_digits (x ∷ f) (c ∷ p) h ne = by_test (x == c) refl (λ same. under_digits f p (and_parts (no_slash c) (list_all no_slash p) h).1 (λ e. ne (λ i. same i ∷ e i))) where
   by_test : (b : Bool) → (x == c) ≡ b → (x ≡ c → under f p ≡ None) → (if b then under f p else None) ≡ None
   by_test true k rest = rest (is_byte x c k)
   by_test false k rest = refl
@@ -87,7 +88,7 @@ under_point rest (c ∷ p) h = by_test (46 == c) refl where
       cc
 
   by_test : (b : Bool) → (46 == c) ≡ b → (if b then under rest p else None) ≡ None
-  by_test true k = absurd (point_is_no_digit k (both (is_ascii_digit c) (list_all is_ascii_digit p) h).0)
+  by_test true k = absurd (point_is_no_digit k (and_parts (is_ascii_digit c) (list_all is_ascii_digit p) h).0)
   by_test false k = refl
 
 no_point : (digits rest : List ℕ) → list_all is_ascii_digit digits ≡ true → digits ≡ 46 ∷ rest → ⊥

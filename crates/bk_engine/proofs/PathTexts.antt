@@ -12,18 +12,19 @@ use Rattle.std.proofs.lemmas.Slice.Eq.{bytes_eq-Decides}
 use Rattle.lsm_names.specs.Paths.{is_path, is_component, is_component_byte, is_dots}
 use Rattle.lsm_names.proofs.FileNameLemmas.{digit_is_component_byte}
 use Rattle.lsm_names.proofs.NumberLemmas.{digit_texts}
-use Rattle.lsm_names.proofs.PathLemmas.{both, list_all-append, list_all-weaker, component_of_parts, component_is_path, joined_is_path, not_dots}
+use Rattle.lsm_names.proofs.PathLemmas.{list_all-append, list_all-weaker, component_of_parts, component_is_path, joined_is_path, not_dots}
 use Rattle.lsm_names.specs.FileNames.{spelled}
 use Rattle.lsm_names.specs.declared.file_names.FileName.{FileName}
 use Rattle.bk_meta.specs.declared.backup_files.BackupFile.TheVariants.{Private}
 use Rattle.bk_meta.specs.BackupFiles.{path_of}
 use Rattle.bk_tree.specs.Places.{meta_path}
 use Rattle.bk_engine.specs.Paths.{own_folder, temporary_path}
+use Rattle.std.proofs.lemmas.Bool.{and_parts}
 
 first_digit : (digits : List ℕ) → 0 < length digits → list_all is_ascii_digit digits ≡ true → is_ascii_alphanumeric (slice_index digits 0) ≡ true
 first_digit [] some h = absurd (omega (arith, some))
 first_digit (digit ∷ digits) some h =
-    let cut = both (is_ascii_digit digit) (list_all is_ascii_digit digits) h in
+    let cut = and_parts (is_ascii_digit digit) (list_all is_ascii_digit digits) h in
     digit_is_alphanumeric digit cut.0 where
       digit_is_alphanumeric : (byte : ℕ) → is_ascii_digit byte ≡ true → is_ascii_alphanumeric byte ≡ true
       digit_is_alphanumeric byte h = grind (arith, nat_tests)

@@ -17,7 +17,6 @@ use Rattle.lsm_names.specs.declared.file_names.FileName.{FileName}
 use Rattle.lsm_names.specs.declared.file_names.FileName.TheVariants.{Log, Manifest, Current}
 use Rattle.lsm_names.proofs.FileNameLemmas.{six_are_digits, file_number_fits}
 use Rattle.lsm_names.proofs.NumberLemmas.{padded_has_digits}
-use Rattle.lsm_names.proofs.PathLemmas.{both}
 use Rattle.bk_meta.specs.declared.backup_files.BackupFile.{BackupFile}
 use Rattle.bk_meta.specs.declared.backup_files.BackupFile.TheVariants.{Private}
 use Rattle.bk_meta.specs.declared.metas.MetaFile.{MetaFile}
@@ -25,6 +24,7 @@ use Rattle.bk_meta.specs.BackupFiles.{file_at, path_of, private_folder, IsBackup
 use Rattle.bk_meta.specs.Metas.{IsMeta, IsMetaFile, Ascends, comes_before, is_whole, is_current, is_manifest, shared_number, are_different, path_at}
 use Rattle.bk_meta.proofs.FileLemmas.{path_names}
 use Rattle.bk_engine.specs.Creating.{plain_names, own_file, own_files, plain_meta}
+use Rattle.std.proofs.lemmas.Bool.{and_parts}
 
 pub found : (id : ℕ) (name : FileName) → IsBackupFile (Private name) → file_at id (path_of id (Private name)) ≡ Some (Private name)
 found id name known = path_names id (Private name) known
@@ -49,7 +49,7 @@ digit_before byte h = grind (arith, nat_tests)
 digits_first : (digits behind rest : List ℕ) → 0 < length digits → list_all is_ascii_digit digits ≡ true → is_lt (slice_cmp nat_cmp (digits ++ behind) (67 ∷ rest)) ≡ true
 digits_first [] behind rest some h = absurd (omega (arith, some))
 digits_first (digit ∷ digits) behind rest some h =
-    ap (λ (o : Ordering). is_lt (ordering_then o (slice_cmp nat_cmp (digits ++ behind) rest))) (digit_before digit (both (is_ascii_digit digit) (list_all is_ascii_digit digits) h).0)
+    ap (λ (o : Ordering). is_lt (ordering_then o (slice_cmp nat_cmp (digits ++ behind) rest))) (digit_before digit (and_parts (is_ascii_digit digit) (list_all is_ascii_digit digits) h).0)
 
 log_first : (number : ℕ) → is_file_number number ≡ true → is_lt (slice_cmp nat_cmp (spelled (Log number)) (spelled Current)) ≡ true
 unfolding spelled

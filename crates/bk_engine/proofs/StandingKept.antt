@@ -6,7 +6,7 @@ use Rattle.std.proofs.lemmas.List.Elements.{All-from_recursion, recursion_from_A
 use Rattle.std.specs.List.{AllByRecursion, list_all}
 use Rattle.lsm_names.specs.FileNames.{spelled}
 use Rattle.lsm_names.specs.Paths.{is_component, is_component_byte}
-use Rattle.lsm_names.proofs.PathLemmas.{both, bytes_of_component, component_has_bytes}
+use Rattle.lsm_names.proofs.PathLemmas.{bytes_of_component, component_has_bytes}
 use Rattle.lsm_disk.specs.Names.{Folder_node, is_in, under}
 use Rattle.lsm_disk.specs.State.{FileState, State, Story, Change, after, after_all, state_of, file_at}
 use Rattle.lsm_disk.specs.Images.{Tree}
@@ -23,6 +23,7 @@ use Rattle.lsm_disk.proofs.Runs.{goes_state, went_weaker, went_wider}
 use Rattle.bk_tree.proofs.Sparing.{within}
 use Rattle.bk_engine.specs.Copying.{Whatever, Anything}
 use Rattle.bk_engine.specs.Leaving.{LeavesFolder, SparesFolder, HasNoNameOf}
+use Rattle.std.proofs.lemmas.Bool.{and_parts}
 
 -- ---- names at a folder and in it
 
@@ -210,9 +211,9 @@ slash_is_none = refl
 
 no_slash : (front rest : List ℕ) → list_all is_component_byte (front ++ 47 ∷ rest) ≡ true → ⊥
 no_slash [] rest h =
-    let clash : false ≡ true = sym slash_is_none ∙ (both (is_component_byte 47) (list_all is_component_byte rest) h).0 in
+    let clash : false ≡ true = sym slash_is_none ∙ (and_parts (is_component_byte 47) (list_all is_component_byte rest) h).0 in
     cc
-no_slash (c ∷ front) rest h = no_slash front rest (both (is_component_byte c) (list_all is_component_byte (front ++ 47 ∷ rest)) h).1
+no_slash (c ∷ front) rest h = no_slash front rest (and_parts (is_component_byte c) (list_all is_component_byte (front ++ 47 ∷ rest)) h).1
 
 pub roots_apart : (dir other : List ℕ) → is_component dir ≡ true → is_component other ≡ true → dir ≢ other → is_in dir other ≡ false
 roots_apart dir other first second differ = never (is_in dir other) (λ inside. ⊎_elim

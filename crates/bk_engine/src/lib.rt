@@ -14,8 +14,6 @@ mod publishing;
 mod restoring;
 mod standing;
 mod stopping;
-#[cfg(test)]
-mod tests;
 
 pub use engine::{BackupEngine, EngineOpen, LAST_IDENTIFIER};
 pub use errors::EngineError;

@@ -3,12 +3,11 @@ use Rattle.std.proofs.Common.{◌≡◌, ℕ, ◌+◌, ◌*◌, ◌/◌, ◌%◌
 use Rattle.std.specs.Prelude.{◌==◌, ◌&&◌, nat_le, if◌then◌else◌, slice_index, unwrap_or}
 use Rattle.std.specs.List.{list_all}
 use Rattle.std.specs.Result.{result_ok}
-use Rattle.std.proofs.lemmas.Bool.{agree_below_at}
+use Rattle.std.proofs.lemmas.Bool.{agree_below_at, and_parts}
 use Rattle.std.proofs.lemmas.Bool.Decides.{nat_tests}
 use Rattle.hex.specs.declared.error.FromHexError.{FromHexError}
 use Rattle.hex.specs.Hex.{encode_lower, encode_with, lower_digits, decode_of, decode_pairs, hex_digit_value, digit_or_error, IsBytes, pair_value, value_at, ◌>>=◌}
 use Rattle.hex.proofs.HexLemmas.{decode_of-ok, decode_of-even}
-use Rattle.lsm_names.proofs.PathLemmas.{both}
 use Rattle.bk_meta.specs.Numbers.{is_lower_digit, metadata_of}
 
 -- ---- one digit
@@ -61,8 +60,8 @@ pairs_return place (high ∷ low ∷ digits) bytes h whole =
     let first = first_ok (value_at high place) _ pair.0 pair.1 in
     let second = first_ok (value_at low (place + 1)) _ pair.0 first.2 in
     let rest = first_ok (decode_pairs (place + 2) digits) _ bytes pair.2 in
-    let cut = both (is_lower_digit high) (list_all is_lower_digit (low ∷ digits)) whole in
-    let inner = both (is_lower_digit low) (list_all is_lower_digit digits) cut.1 in
+    let cut = and_parts (is_lower_digit high) (list_all is_lower_digit (low ∷ digits)) whole in
+    let inner = and_parts (is_lower_digit low) (list_all is_lower_digit digits) cut.1 in
     let high_value = digit_was high place (hex_digit_value high) first.0 first.1 in
     let low_value = digit_was low (place + 1) (hex_digit_value low) second.0 second.1 in
     let byte : first.0 * 16 + second.0 ≡ pair.0 = same_value (first.0 * 16 + second.0) pair.0 second.2 in

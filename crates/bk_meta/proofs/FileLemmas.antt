@@ -1,4 +1,4 @@
--- Which file a path names, both ways.
+-- Which file a path names, and_parts ways.
 use Rattle.std.proofs.Common.{◌≡◌, ◌≢◌, ℕ, ◌^◌, ◌<◌, List, [], ◌∷◌, ◌++◌, length, take, drop, Bool, true, false, refl, ap, sym, ◌∙◌, subst, arith, Option, Some, None, inl, inr}
 use Rattle.std.specs.Prelude.{◌&&◌, ◌⊎◌, if◌then◌else◌, codes, slice_index, nat_lt}
 use Rattle.std.specs.Char.{is_ascii_digit, is_ascii_alphanumeric}
@@ -23,7 +23,7 @@ use Rattle.lsm_names.specs.Sessions.{is_session}
 use Rattle.lsm_names.specs.SharedNames.{spelled_shared, IsSharedName}
 use Rattle.lsm_names.proofs.FileNameLemmas.{spelled_injective, spelled_is_component, spelled_is_short, file_number_fits, six_are_digits, digit_is_component_byte}
 use Rattle.lsm_names.proofs.NumberLemmas.{digit_texts, padded_value}
-use Rattle.lsm_names.proofs.PathLemmas.{both, list_all-weaker, component_of_parts, component_is_path, component_is_short, joined_is_path, not_dots}
+use Rattle.lsm_names.proofs.PathLemmas.{list_all-weaker, component_of_parts, component_is_path, component_is_short, joined_is_path, not_dots}
 use Rattle.lsm_names.proofs.SessionLemmas.{length_of_session}
 use Rattle.lsm_names.proofs.SharedNameLemmas.{origin, shared_parts, six_have_no_underscore, same_name, shared_is_component}
 use Rattle.bk_meta.specs.declared.backup_files.BackupFile.{BackupFile}
@@ -31,6 +31,7 @@ use Rattle.bk_meta.specs.declared.backup_files.BackupFile.TheVariants.{Private, 
 use Rattle.bk_meta.specs.BackupFiles.{private_folder, shared_folder, path_of, IsBackupFile, number_in, private_name, shared_by, is_shared_name, if_spelled, shared_where, shared_name, file_at}
 use Rattle.bk_meta.specs.Lines.{begins, cut_at}
 use Rattle.bk_meta.proofs.LineLemmas.{cut_whole, begins_with, begun_by, behind_front}
+use Rattle.std.proofs.lemmas.Bool.{and_parts}
 
 -- ---- tests of texts
 
@@ -52,7 +53,7 @@ other_texts left right differ = by_difference (bytes_eq left right) (λ same. di
 all_kept : (test : ℕ → Bool) (xs : List ℕ) → list_all test xs ≡ true → filter test xs ≡ xs
 all_kept test [] h = refl
 all_kept test (x ∷ xs) h =
-    let cut = both (test x) (list_all test xs) h in
+    let cut = and_parts (test x) (list_all test xs) h in
     rw (cut.0, all_kept test xs cut.1)
 
 digits_in_front : (digits behind : List ℕ) → list_all is_ascii_digit digits ≡ true → filter is_ascii_digit behind ≡ [] → number_in (digits ++ behind) ≡ digits_value 10 digits
@@ -123,10 +124,10 @@ private_spells text name h =
     elim (which (bytes_eq text (spelled Current)) (has && bytes_eq text (spelled (Manifest number))) (has && bytes_eq text (spelled (Log number))) Current (Manifest number) (Log number) name h) [
       | inl current ↦ subst (λ (n : FileName). IsBackupFile (Private n) × (text ≡ spelled n)) current.1 (tt, equal_texts text (spelled Current) current.0)
       | inr (inl manifest) ↦
-          let cut = both has (bytes_eq text (spelled (Manifest number))) manifest.0 in
+          let cut = and_parts has (bytes_eq text (spelled (Manifest number))) manifest.0 in
           subst (λ (n : FileName). IsBackupFile (Private n) × (text ≡ spelled n)) manifest.1 (cut.0, equal_texts text (spelled (Manifest number)) cut.1)
       | inr (inr log) ↦
-          let cut = both has (bytes_eq text (spelled (Log number))) log.0 in
+          let cut = and_parts has (bytes_eq text (spelled (Log number))) log.0 in
           subst (λ (n : FileName). IsBackupFile (Private n) × (text ≡ spelled n)) log.1 (cut.0, equal_texts text (spelled (Log number)) cut.1)
     ]
 
@@ -212,8 +213,8 @@ shared_is_tested name h =
 tested_is_shared : (name : SharedName) → is_shared_name name ≡ true → IsSharedName name
 unfolding is_shared_name
 tested_is_shared name h =
-    let outer = both (is_file_number name.number && is_session name.session) (nat_lt name.size (2 ^ 64)) h in
-    let inner = both (is_file_number name.number) (is_session name.session) outer.0 in
+    let outer = and_parts (is_file_number name.number && is_session name.session) (nat_lt name.size (2 ^ 64)) h in
+    let inner = and_parts (is_file_number name.number) (is_session name.session) outer.0 in
     record { number = inner.0; session = inner.1; size = grind (arith, nat_tests, outer.1) }
 
 if_true : {A : Type 0} (is : Bool) (it : A) → is ≡ true → (if is then Some it else None) ≡ Some it
@@ -236,7 +237,7 @@ spelled_where text None name h = absurd (cc)
 spelled_where text (Some parts) name h =
     let it = shared_by parts in
     let found = if_some (is_shared_name it && bytes_eq text (spelled_shared it)) it name h in
-    let cut = both (is_shared_name it) (bytes_eq text (spelled_shared it)) found.0 in
+    let cut = and_parts (is_shared_name it) (bytes_eq text (spelled_shared it)) found.0 in
     subst (λ (n : SharedName). IsSharedName n × (text ≡ spelled_shared n)) found.1 (tested_is_shared it cut.0, equal_texts text (spelled_shared it) cut.1)
 
 pub shared_spells : (text : List ℕ) (name : SharedName) → shared_name text ≡ Some name → IsSharedName name × (text ≡ spelled_shared name)
@@ -313,7 +314,7 @@ path_spells id path file h = named_by id path file (begins (private_folder id) p
 first_digit : (digits : List ℕ) → 0 < length digits → list_all is_ascii_digit digits ≡ true → is_ascii_alphanumeric (slice_index digits 0) ≡ true
 first_digit [] some h = absurd (omega arith)
 first_digit (digit ∷ digits) some h =
-    let cut = both (is_ascii_digit digit) (list_all is_ascii_digit digits) h in
+    let cut = and_parts (is_ascii_digit digit) (list_all is_ascii_digit digits) h in
     digit_is_alphanumeric digit cut.0 where
       digit_is_alphanumeric : (byte : ℕ) → is_ascii_digit byte ≡ true → is_ascii_alphanumeric byte ≡ true
       digit_is_alphanumeric byte h = grind (arith, nat_tests)

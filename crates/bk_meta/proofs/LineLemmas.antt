@@ -8,8 +8,8 @@ use Rattle.std.proofs.lemmas.List.{take_rest, take-append-drop}
 use Rattle.std.proofs.Math.Seq.{take-append_seam, drop-append_seam}
 use lib.Dec.{ltb}
 use mathlib.Core.Bool.{cond}
-use Rattle.lsm_names.proofs.PathLemmas.{both}
 use Rattle.bk_meta.specs.Lines.{cut_at, put_first, begins}
+use Rattle.std.proofs.lemmas.Bool.{and_parts}
 
 -- ---- cutting
 
@@ -71,7 +71,7 @@ pub cut_whole : (mark : ℕ) (front back : List ℕ) → list_all (λ byte. not 
 unfolding cut_at
 cut_whole mark [] back none = let same : mark == mark ≡ true = grind (arith, nat_tests) in rw same
 cut_whole mark (byte ∷ front) back none =
-    let cut = both (not (byte == mark)) (list_all (λ b. not (b == mark)) front) none in
+    let cut = and_parts (not (byte == mark)) (list_all (λ b. not (b == mark)) front) none in
     let other : byte == mark ≡ false = grind (arith, nat_tests) in
     rw (other, cut_whole mark front back cut.1)
 

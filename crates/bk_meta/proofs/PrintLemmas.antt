@@ -5,7 +5,7 @@ use Rattle.std.specs.Char.{is_ascii_digit}
 use Rattle.std.specs.Fmt.{decimal}
 use Rattle.std.specs.List.{list_all}
 use Rattle.std.specs.Result.{result_ok}
-use Rattle.std.proofs.lemmas.Bool.{agree_below_at}
+use Rattle.std.proofs.lemmas.Bool.{agree_below_at, and_parts}
 use Rattle.std.proofs.lemmas.Bool.Decides.{nat_tests}
 use Rattle.std.proofs.lemmas.Fmt.{digits_decimal, decimal_nonempty}
 use Rattle.std.proofs.lemmas.List.{append_assoc}
@@ -13,7 +13,7 @@ use Rattle.hex.specs.Hex.{encode_lower, encode_with, lower_digits, decode_of, Is
 use Rattle.hex.proofs.HexLemmas.{length-encode_with, decode_of-encode_lower}
 use Rattle.lsm_names.specs.Paths.{is_component, is_component_byte}
 use Rattle.lsm_names.proofs.NumberLemmas.{digit_texts}
-use Rattle.lsm_names.proofs.PathLemmas.{both, list_all-weaker, list_all-append, bytes_of_component}
+use Rattle.lsm_names.proofs.PathLemmas.{list_all-weaker, list_all-append, bytes_of_component}
 use Rattle.bk_meta.specs.declared.errors.MetaWhy.TheVariants.{Ending}
 use Rattle.bk_meta.specs.Lines.{some_or, cut_at, line_at, begins}
 use Rattle.bk_meta.specs.Numbers.{is_lower_digit, metadata_of}
@@ -69,14 +69,14 @@ line_reads at line rest whole = ap (λ (cut : Option (List ℕ × List ℕ)). so
 first_differs : (first : ℕ) (front digits behind : List ℕ) → is_ascii_digit first ≡ false → 0 < length digits → list_all is_ascii_digit digits ≡ true → begins (first ∷ front) (digits ++ behind) ≡ false
 first_differs first front [] behind h some whole = absurd (omega arith)
 first_differs first front (digit ∷ digits) behind h some whole =
-    let cut = both (is_ascii_digit digit) (list_all is_ascii_digit digits) whole in
+    let cut = and_parts (is_ascii_digit digit) (list_all is_ascii_digit digits) whole in
     let other : digit == first ≡ false = grind (arith, nat_tests, h, cut.0) in
     rw other
 
 pub number_begins : (first number : ℕ) (front behind : List ℕ) → number < 2 ^ 64 → is_ascii_digit first ≡ false → begins (first ∷ front) (decimal number ++ behind) ≡ false
 number_begins first number front behind small h = first_differs first front (decimal number) behind h (decimal_nonempty number small) (digits_decimal digit_texts number small)
 
--- ---- hexadecimal digits, both ways
+-- ---- hexadecimal digits, and_parts ways
 
 digit_of : ℕ → Bool
 digit_of value = is_lower_digit (slice_index lower_digits value)

@@ -5,7 +5,7 @@ use Rattle.std.specs.Cmp.Lexicographic.{slice_cmp}
 use Rattle.std.specs.Int.{from_bool}
 use Rattle.std.specs.List.{list_any, count_by, cons_option, All}
 use Rattle.std.specs.Ordering.{nat_cmp, is_lt, ordering_then}
-use Rattle.std.proofs.lemmas.Bool.{cases_order, or_cases, not-true}
+use Rattle.std.proofs.lemmas.Bool.{cases_order, or_cases, not-true, and_parts}
 use Rattle.std.proofs.lemmas.Bool.Decides.{nat_tests}
 use Rattle.std.proofs.lemmas.Cmp.{nat_list_cmp_total}
 use Rattle.std.proofs.lemmas.List.{append_assoc, append_cancel_left, append-nil, take_more, take-append-drop, drop_more}
@@ -16,7 +16,6 @@ use Rattle.lsm_names.specs.declared.shared_names.SharedName.{SharedName}
 use Rattle.lsm_names.specs.Numbers.{six_digits, is_file_number}
 use Rattle.lsm_names.specs.SharedNames.{spelled_shared, IsSharedName}
 use Rattle.lsm_names.proofs.FileNameLemmas.{six_injective}
-use Rattle.lsm_names.proofs.PathLemmas.{both}
 use Rattle.lsm_names.proofs.SharedNameLemmas.{origin, shared_parts, six_have_no_underscore}
 use Rattle.bk_meta.specs.declared.backup_files.BackupFile.{BackupFile}
 use Rattle.bk_meta.specs.declared.backup_files.BackupFile.TheVariants.{Private, Shared}
@@ -198,7 +197,7 @@ pushed a b c d p q r s = rw (s, p, q, r)
 pub different_push : (numbers : List ℕ) (number : ℕ) → are_different numbers ≡ true → has number numbers ≡ false → are_different (numbers ++ number ∷ []) ≡ true
 different_push [] number p q = refl
 different_push (n ∷ numbers) number p q =
-    let old = both (not (has n numbers)) (are_different numbers) p in
+    let old = and_parts (not (has n numbers)) (are_different numbers) p in
     let new = neither (n == number) (has number numbers) q in
     let apart : has n numbers ≡ false = not-true (has n numbers) old.0 in
     let other : number == n ≡ false = grind (arith, nat_tests, new.0) in

@@ -13,8 +13,6 @@ mod numbers;
 mod printing;
 mod reading;
 mod sets;
-#[cfg(test)]
-mod tests;
 
 pub use backup_files::BackupFile;
 pub use errors::{MetaError, MetaWhy};

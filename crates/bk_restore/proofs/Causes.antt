@@ -16,6 +16,7 @@ use Rattle.lsm_disk.specs.declared.dest.DestError.TheVariants as dest
 use Rattle.bk_restore.specs.declared.errors.RestoreError.{RestoreError}
 use Rattle.bk_restore.specs.declared.errors.RestoreError.TheVariants.{DiskFault, DestFault, Halted, DestinationExists, Missing, Changed, WrongSize, Damaged, NoMemory}
 use Rattle.bk_restore.specs.Refusals.{disk_answer, dest_answer}
+pub use Rattle.bk_copy.proofs.Files.{later_same, later_trans}
 use Rattle.bk_restore.specs.Causes.{CountedBy, AreLater, HasCauses, counts_of, silent}
 
 -- what is known of an error holds of the `?` that hands it on
@@ -32,12 +33,6 @@ returned_as P r e is p =
 
 rose_wider : (a b c d : ℕ) → a ≤ b → Rose b c → c ≤ d → Rose a d
 rose_wider a b c d before rose after = omega arith
-
-pub later_same : (seen : Seen) → AreLater seen seen
-later_same seen = record { faults = omega arith; refusals = omega arith }
-
-pub later_trans : (a b c : Seen) → AreLater a b → AreLater b c → AreLater a c
-later_trans a b c x y = record { faults = omega (arith, x.faults, y.faults); refusals = omega (arith, x.refusals, y.refusals) }
 
 counted_wider : (a b c d e f g h : Type 0) (error : RestoreError) → (a → e) → (b → f) → (c → g) → (d → h) → CountedBy a b c d error → CountedBy e f g h error
 counted_wider a b c d e f g h DiskFault x y z w counted = x counted

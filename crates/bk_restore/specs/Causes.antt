@@ -1,8 +1,9 @@
 -- Which count rose.
-use Rattle.std.specs.Prelude.{◌⊎◌, ◌≤◌, None, Result, IfErr}
+use Rattle.std.specs.Prelude.{◌⊎◌, None, Result, IfErr}
 use Rattle.lsm_io.specs.Causes.{Rose}
 use Rattle.lsm_disk.specs.State.{Seen}
 use Rattle.lsm_disk.specs.Viewed.{Viewed}
+pub use Rattle.bk_copy.specs.Counts.{AreLater}
 use Rattle.bk_restore.specs.declared.errors.RestoreError.{RestoreError}
 use Rattle.bk_restore.specs.declared.errors.RestoreError.TheVariants.{DiskFault, DestFault, Halted, DestinationExists, Missing, Changed, WrongSize, Damaged, NoMemory}
 
@@ -17,11 +18,6 @@ CountedBy fault refused dest_fault dest_refused (Changed call path) = refused �
 CountedBy fault refused dest_fault dest_refused (WrongSize name kept found) = Unit {0}
 CountedBy fault refused dest_fault dest_refused (Damaged name kept found) = Unit {0}
 CountedBy fault refused dest_fault dest_refused NoMemory = Unit {0}
-
--- no count has fallen
-pub record AreLater (old new : Seen) : Type 0 where
-  pub faults : old.faults ≤ new.faults
-  pub refusals : old.refusals ≤ new.refusals
 
 -- No count has fallen, and one has risen as the answer says.
 pub record HasCauses {T : Type 0} (disk disk_now dest dest_now : Seen) (result : Result T RestoreError) : Type 0 where

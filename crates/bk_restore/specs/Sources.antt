@@ -1,17 +1,14 @@
 -- What is read of the backup disk.
-use Rattle.std.specs.Prelude.{◌≡◌, ℕ, ◌-◌, ◌≤◌, min, List, length, take, Option, Some, None, IfSome}
-use Rattle.lsm_bytes.specs.Checksum.{take_bytes, crc32c}
+use Rattle.std.specs.Prelude.{◌≡◌, ℕ, List, length, Option, Some, None, IfSome}
+use Rattle.lsm_bytes.specs.Checksum.{crc32c}
 use Rattle.lsm_disk.specs.State.{Story, state_of, file_now, bytes_of}
 use Rattle.lsm_disk.specs.Images.{bytes_at, tree_now}
 use Rattle.lsm_disk.specs.Refusals.{no_file}
 use Rattle.lsm_disk.specs.Viewed.{Viewed}
 use Rattle.bk_meta.specs.declared.backup_files.BackupFile.{BackupFile}
 use Rattle.bk_meta.specs.declared.metas.MetaFile.{MetaFile}
+pub use Rattle.bk_copy.specs.Copying.{IsCopyOf, IsSameView}
 use Rattle.bk_restore.specs.Wrong.{wrong_size}
-
--- so many bytes at once, at most 1,048,576
-abbrev pub piece_at : ℕ → ℕ → ℕ
-piece_at len at = min (len - at) 1048576
 
 -- the file is there with so many bytes, where the disk tells
 abbrev pub HasLength : Option Story → List ℕ → ℕ → Type 0
@@ -22,24 +19,6 @@ pub record IsWholeView (told : Option Story) (file : MetaFile) (which : BackupFi
   pub fresh : v.faults ≡ 0
   pub size : wrong_size file which v.len ≡ None
   pub same : IfSome told (λ story. (bytes : List ℕ) × (bytes_at (tree_now (state_of story)) file.path ≡ Some bytes) × (length bytes ≡ v.len) × (v.bytes ≡ Some bytes))
-
--- the view has the same bytes, and its count of faults hasn't fallen
-pub record IsSameView (old new : Viewed) : Type 0 where
-  pub bytes : new.bytes ≡ old.bytes
-  pub len : new.len ≡ old.len
-  pub later : old.faults ≤ new.faults
-
--- The bytes that were read of a view up to a place, and the register of their checksum.
-pub record IsRead (v : Viewed) (at register : ℕ) (text : List ℕ) : Type 0 where
-  pub sum : register ≡ take_bytes 0xFFFFFFFF text
-  pub long : length text ≡ at
-  pub same : (bytes : List ℕ) → v.bytes ≡ Some bytes → text ≡ take at bytes
-
--- The bytes are so many as the view has, have this checksum, and are the view's, where it tells them.
-pub record IsCopyOf (v : Viewed) (crc : ℕ) (text : List ℕ) : Type 0 where
-  pub sum : crc ≡ crc32c text
-  pub long : length text ≡ v.len
-  pub same : (bytes : List ℕ) → v.bytes ≡ Some bytes → length bytes ≡ v.len → text ≡ bytes
 
 -- The bytes were read of this file, which has the right size, and have this checksum. They are the file's, where the disk tells.
 pub record IsTextOf (told : Option Story) (file : MetaFile) (which : BackupFile) (crc : ℕ) (text : List ℕ) : Type 0 where

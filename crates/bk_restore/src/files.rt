@@ -13,7 +13,7 @@ ghost use Rattle.bk_restore.specs.Hands.{IsReady, HasInHand, IsNewName, Builds};
 ghost use Rattle.bk_restore.specs.Restored.{part_of, IsRestored};
 
 use crate::RestoreError;
-use crate::pieces::copy_bytes;
+use crate::copying::copy_bytes;
 use crate::refusals::{compare, dest_refused};
 use crate::sources::open_file;
 use bk_meta::{BackupFile, MetaFile};

@@ -1,18 +1,16 @@
 //! A backup read back: its files go to a destination, and `CURRENT` comes last.
 #![tactic(auto)]
 
+mod copying;
 mod current;
 mod errors;
 mod files;
 mod laws;
 mod named;
 mod others;
-mod pieces;
 mod refusals;
 mod restoring;
 mod sources;
-#[cfg(test)]
-mod tests;
 
 pub use errors::RestoreError;
 pub use laws::{held_backup_is_right, restored_parts_are_held};

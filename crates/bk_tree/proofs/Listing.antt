@@ -14,11 +14,7 @@ use Rattle.lsm_disk.specs.Images.{Tree, bytes_by}
 use Rattle.lsm_disk.proofs.Paths.{same_path}
 use Rattle.bk_tree.specs.Places.{is_identifier, meta_path}
 use Rattle.bk_tree.specs.Listed.{is_file, is_listed, number_behind, identifier_at, listed}
-
-both : (a b : Bool) → (a && b) ≡ true → (a ≡ true) × (b ≡ true)
-both true true h = (refl, refl)
-both true false h = cc
-both false b h = cc
+use Rattle.std.proofs.lemmas.Bool.{and_parts}
 
 -- ---- what a filter gives
 
@@ -61,7 +57,7 @@ identified t path id is = by_test (is_listed t (number_behind path)) refl is whe
 
 found_again : (t : Tree) (id : ℕ) → is_listed t id ≡ true → identifier_at t (meta_path id) ≡ Some id
 found_again t id is =
-    let number = number_of_meta id (both (is_identifier id) (is_file t (meta_path id)) is).0 in
+    let number = number_of_meta id (and_parts (is_identifier id) (is_file t (meta_path id)) is).0 in
     ap (λ (n : ℕ). if is_listed t n && bytes_eq (meta_path id) (meta_path n) then Some n else None) number
     ∙ ap (λ b. if b && bytes_eq (meta_path id) (meta_path id) then Some id else None) is
     ∙ ap (λ b. if b then Some id else None) ((bytes_eq-Decides (meta_path id) (meta_path id)).1 refl)
@@ -83,4 +79,4 @@ pub all_are_listed : (t : Tree) (id : ℕ) → is_listed t id ≡ true → Conta
 unfolding listed
 all_are_listed t id is =
     given (identifier_at t) (eq_by_cmp path_cmp) same_path (meta_path id) id (found_again t id is) (map.keys t.names)
-    (sym (map.contains_key-keys t.names (meta_path id)) ∙ named t (meta_path id) (both (is_identifier id) (is_file t (meta_path id)) is).1)
+    (sym (map.contains_key-keys t.names (meta_path id)) ∙ named t (meta_path id) (and_parts (is_identifier id) (is_file t (meta_path id)) is).1)

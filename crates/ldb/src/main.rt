@@ -1,20 +1,17 @@
-//! `ldb`: a store of keys and values with a log. It reads a script from its input, runs it over a disk in memory, and
-//! prints the answer to each line.
+//! `ldb`: a store of keys and values with a log. It reads a script from its input, runs it over a
+//! disk in memory, and prints the answer to each line. What the top call does is in `ldb_run`.
 #![tactic(auto)]
 
-#[cfg(test)]
-mod tests;
-mod top;
-
+use ldb_run::ldb;
 use lsm_io::{HostClock, HostSessions, Sink, StdSink, StdSource};
 use lsm_memdisk::MemDisk;
 use std::alloc::AllocError;
 use std::env;
 use std::process::ExitCode;
 use std::rt::Env;
-use top::ldb;
 
-/// The words behind the program's name. Words that are no text count as none, which is a faulty command line.
+/// The words behind the program's name. Words that are no text count as none, which is a faulty
+/// command line.
 fn words_of<R: AllocGlobal + Env>(rt: &R) -> Result<Vec<String>, AllocError> {
     let mut words = Vec::new(rt.alloc());
     if let Ok(given) = env::args(rt) {

@@ -41,9 +41,9 @@ use Rattle.ldb_script.specs.declared.ending.Ended.TheVariants as ended
 use Rattle.ldb_script.specs.declared.store.StoreError.{StoreError}
 use Rattle.ldb_script.specs.declared.store.StoreError.TheVariants as store_errors
 use Rattle.ldb_script.proofs.Keeping.{backs_keep}
-use Rattle.ldb_script.proofs.Opened.{rose_later}
 use Rattle.ldb_script.proofs.Serving.{stands_told}
 use Rattle.ldb_script.proofs.Standings.{folders_of}
+use Rattle.lsm_frame.proofs.Going.{rose_later}
 
 -- ---- made texts
 

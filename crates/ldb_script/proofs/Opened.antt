@@ -16,9 +16,7 @@ use Rattle.ldb_script.specs.Stored.{log_path, manifest_path, current_path, first
 use Rattle.lsm_dest.proofs.Places.{inside_folder}
 use Rattle.ldb_script.specs.Filling.{Fills, HasCurrent, HasStore}
 use Rattle.ldb_script.proofs.Folders.{making_spares, making_spares_name, making_within, manifest_not_log, current_not_log, joined_apart, neither, folder_apart, stands_same, name_goes, elsewhere_goes}
-
-pub rose_later : (a b c : ℕ) → a ≤ b → Rose b c → Rose a c
-rose_later a b c le rose = omega (arith, rose, le)
+use Rattle.lsm_frame.proofs.Going.{rose_later}
 
 -- ---- the new log
 

@@ -25,11 +25,11 @@ use Rattle.ldb_script.specs.declared.ending.Ended.{Ended}
 use Rattle.ldb_script.specs.declared.ending.Ended.TheVariants as ended
 use Rattle.ldb_script.specs.declared.opening.OpenError.{OpenError}
 use Rattle.ldb_script.specs.declared.opening.OpenError.TheVariants as open_errors
-use Rattle.ldb_script.proofs.Opened.{rose_later}
 use Rattle.ldb_script.proofs.Logs.{keeps}
 use Rattle.ldb_script.proofs.Besides.{files_kept}
 use Rattle.ldb_script.proofs.Remaining.{restored_read, backups_held, read_undurable, held_undurable}
 use Rattle.ldb_script.proofs.Turning.{joined_none, output_none, reached, fails, ends_behind}
+use Rattle.lsm_frame.proofs.Going.{rose_later}
 
 -- before the first line
 pub begun : (origin : Origin) (source sink : Stream) (at : Tools) (actors : List (List ℕ)) → AreAt origin at (told (empty origin.start) []) → actors ≡ []

@@ -18,8 +18,8 @@ use Rattle.ldb_script.specs.Run.{Stream, Met, now, joined, Reached, IsAsked, IsA
 use Rattle.ldb_script.specs.Doing.{IsOfRestore, IsDone, Stops, DoneOr, Underway, IsOver, IsAtBad, IsAtFault, Ran, TurnedOr}
 use Rattle.ldb_script.specs.declared.ending.Ended.{Ended}
 use Rattle.ldb_script.specs.declared.ending.Ended.TheVariants as ended
-use Rattle.ldb_script.proofs.Opened.{rose_later}
 use Rattle.ldb_script.proofs.Serving.{at_unnamed, stands_unnamed}
+use Rattle.lsm_frame.proofs.Going.{rose_later}
 
 -- ---- lines and their newlines
 

@@ -12,7 +12,7 @@ use Rattle.lsm_disk.specs.Images.{Tree, IsImage, tree_now, bytes_at}
 use Rattle.lsm_disk.specs.Codes.{coded_seen}
 use Rattle.lsm_wal.specs.Batches.{in_sequence, wal_text}
 use Rattle.lsm_wal.specs.Standing.{IsWal}
-use Rattle.lsm_recover.specs.Contents.{coded_bytes, coded_contents}
+use Rattle.lsm_rows.specs.Pairs.{coded_bytes, coded_contents}
 use Rattle.ldb_script.specs.Plain.{Outcome}
 use Rattle.ldb_script.specs.Folders.{FoldersStand}
 

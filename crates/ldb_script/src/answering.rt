@@ -39,9 +39,13 @@ fn shut(why: EngineError) -> Ended
 
 // Opens an engine over the backups where none is opened yet.
 fn open_backups<B: Disk>(backups: &mut Backups<B>) -> Result<(), Ended>
-    ensures opened { (origin : Origin) (shown : Shown) (before after : Stream) (outcome : Outcome) (command : Command) → IsOfBackups command → Stands origin.store shown outcome
-        → Backs origin.backups backups.old outcome.after → (IsTrue outcome.after.start.tells → IsSome origin.backups)
-        → OpenedOr origin (tools shown backups.old before) (tools shown backups.new after) outcome command result }
+    ensures opened { (origin : Origin) (shown : Shown) (before after : Stream) (outcome : Outcome)
+        (command : Command)
+        → IsOfBackups command → Stands origin.store shown outcome
+        → Backs origin.backups backups.old outcome.after
+        → (IsTrue outcome.after.start.tells → IsSome origin.backups)
+        → OpenedOr origin (tools shown backups.old before) (tools shown backups.new after) outcome
+        command result }
     ensures engine { IfOk result (λ done. IsSome backups.new.engine) }
     ensures counts { SeenStay backups.old.disk backups.new.disk }
 {
@@ -72,8 +76,11 @@ fn create_at<D: Disk, B: Disk>(
     now: u64,
 ) -> Result<Bytes, Ended>
     requires { IsSome backups.old.engine }
-    ensures done { (origin : Origin) (before after : Stream) (outcome : Outcome) (left : Option (List ℕ)) → Stands origin.store store.old outcome → Backs origin.backups backups.old outcome.after
-        → CreatedOr origin (tools store.old backups.old before) (tools store.new backups.new after) outcome now left result }
+    ensures done { (origin : Origin) (before after : Stream) (outcome : Outcome)
+        (left : Option (List ℕ))
+        → Stands origin.store store.old outcome → Backs origin.backups backups.old outcome.after
+        → CreatedOr origin (tools store.old backups.old before) (tools store.new backups.new after)
+        outcome now left result }
     ensures line { ByOneLine store.old store.new }
     ensures counts { SeenStay backups.old.disk backups.new.disk }
 {
@@ -96,8 +103,12 @@ fn create_opened<D: Disk, B: Disk>(
     backups: &mut Backups<B>,
     now: u64,
 ) -> Result<Bytes, Ended>
-    ensures done { (origin : Origin) (before after : Stream) (outcome : Outcome) (left : Option (List ℕ)) → Stands origin.store store.old outcome → Backs origin.backups backups.old outcome.after
-        → (IsTrue outcome.after.start.tells → IsSome origin.backups) → CreatedOr origin (tools store.old backups.old before) (tools store.new backups.new after) outcome now left result }
+    ensures done { (origin : Origin) (before after : Stream) (outcome : Outcome)
+        (left : Option (List ℕ))
+        → Stands origin.store store.old outcome → Backs origin.backups backups.old outcome.after
+        → (IsTrue outcome.after.start.tells → IsSome origin.backups)
+        → CreatedOr origin (tools store.old backups.old before) (tools store.new backups.new after)
+        outcome now left result }
     ensures line { ByOneLine store.old store.new }
     ensures counts { SeenStay backups.old.disk backups.new.disk }
 {
@@ -114,9 +125,13 @@ pub fn answer_create<D: Disk, B: Disk, C: Clock>(
     backups: &mut Backups<B>,
     clock: &mut C,
 ) -> Result<Bytes, Ended>
-    ensures done { (origin : Origin) (outcome : Outcome) → AreAt origin (tools store.old backups.old (stream C.left C.faults clock.old)) outcome
-        → AnsweredOr origin (tools store.old backups.old (stream C.left C.faults clock.old)) (tools store.new backups.new (stream C.left C.faults clock.new)) outcome Command.CreateBackup result }
-    ensures line { ByLine (tools store.old backups.old (stream C.left C.faults clock.old)) (tools store.new backups.new (stream C.left C.faults clock.new)) }
+    ensures done { (origin : Origin) (outcome : Outcome)
+        → AreAt origin (tools store.old backups.old (stream C.left C.faults clock.old)) outcome
+        → AnsweredOr origin (tools store.old backups.old (stream C.left C.faults clock.old))
+        (tools store.new backups.new (stream C.left C.faults clock.new)) outcome
+        Command.CreateBackup result }
+    ensures line { ByLine (tools store.old backups.old (stream C.left C.faults clock.old))
+        (tools store.new backups.new (stream C.left C.faults clock.new)) }
 {
     match clock.now() {
         Ok(now) => create_opened(alloc, store, backups, now),
@@ -126,8 +141,10 @@ pub fn answer_create<D: Disk, B: Disk, C: Clock>(
 
 /// Lists the backups, and makes the answer.
 pub fn answer_list<B: Disk>(alloc: Global, backups: &mut Backups<B>) -> Result<Bytes, Ended>
-    ensures done { (origin : Origin) (shown : Shown) (clock : Stream) (outcome : Outcome) → AreAt origin (tools shown backups.old clock) outcome
-        → AnsweredOr origin (tools shown backups.old clock) (tools shown backups.new clock) outcome Command.ListBackups result }
+    ensures done { (origin : Origin) (shown : Shown) (clock : Stream) (outcome : Outcome)
+        → AreAt origin (tools shown backups.old clock) outcome
+        → AnsweredOr origin (tools shown backups.old clock) (tools shown backups.new clock) outcome
+        Command.ListBackups result }
     ensures counts { SeenStay backups.old.disk backups.new.disk }
 {
     match open_backups(backups) {
@@ -162,8 +179,10 @@ pub fn answer_restore<D: Disk, B: Disk>(
     id: u32,
     name: &Folder,
 ) -> Result<Bytes, Ended>
-    ensures done { (origin : Origin) (clock : Stream) (outcome : Outcome) → AreAt origin (tools place.old backups.old clock) outcome
-        → AnsweredOr origin (tools place.old backups.old clock) (tools place.new backups.new clock) outcome (Command.RestoreBackup id name.now) result }
+    ensures done { (origin : Origin) (clock : Stream) (outcome : Outcome)
+        → AreAt origin (tools place.old backups.old clock) outcome
+        → AnsweredOr origin (tools place.old backups.old clock) (tools place.new backups.new clock)
+        outcome (Command.RestoreBackup id name.now) result }
     ensures line { ByOneLine place.old place.new }
     ensures counts { SeenStay backups.old.disk backups.new.disk }
 {

@@ -61,7 +61,9 @@ impl<B: Disk> Backups<B> {
 
     /// Opens the engine where none is opened yet.
     pub fn open(&mut self) -> Result<(), EngineError>
-        ensures opened { (start : Option Story) (plain : Plain) → (IsTrue plain.start.tells → IsSome start) → Backs start self.old plain → OpensOr start self.old self.new plain result }
+        ensures opened { (start : Option Story) (plain : Plain)
+            → (IsTrue plain.start.tells → IsSome start) → Backs start self.old plain
+            → OpensOr start self.old self.new plain result }
         ensures engine { IfOk result (λ done. IsSome self.new.engine) }
         ensures counts { SeenStay self.old.disk self.new.disk }
     {
@@ -95,11 +97,20 @@ impl<B: Disk> Backups<B> {
         requires engine { IsSome self.old.engine }
         requires log { IfSome files.log (λ file. IsTrue (is_file_number file.number)) }
         requires manifest { IsTrue (is_file_number files.manifest.number) }
-        ensures created { IfOk result (λ info. (start : Option Story) (plain : Plain) (left : Option (List ℕ)) → Backs start self.old plain → sequence ≡ plain.sequence
-            → (IsTrue plain.start.tells → ArePlain plain (plain_names (option_map (λ file. file.number) files.log) files.manifest.number) (plain_views (option_map (λ file. V.viewed file.view) files.log) (V.viewed files.current) (V.viewed files.manifest.view)))
+        ensures created { IfOk result (λ info. (start : Option Story) (plain : Plain)
+            (left : Option (List ℕ))
+            → Backs start self.old plain → sequence ≡ plain.sequence
+            → (IsTrue plain.start.tells
+            → ArePlain plain (plain_names (option_map (λ file. file.number) files.log)
+            files.manifest.number) (plain_views
+            (option_map (λ file. V.viewed file.view) files.log)
+            (V.viewed files.current) (V.viewed files.manifest.view)))
             → IsCreated start self.new plain now left info) }
-        ensures refused { IfErr result (λ r. (start : Option Story) (plain : Plain) → Backs start self.old plain
-            → UncreatedBy self.old self.new plain (faults_of (plain_views (option_map (λ file. V.viewed file.view) r.files.log) (V.viewed r.files.current) (V.viewed r.files.manifest.view))) r.why) }
+        ensures refused { IfErr result (λ r. (start : Option Story) (plain : Plain)
+            → Backs start self.old plain
+            → UncreatedBy self.old self.new plain (faults_of (plain_views
+            (option_map (λ file. V.viewed file.view) r.files.log)
+            (V.viewed r.files.current) (V.viewed r.files.manifest.view))) r.why) }
         ensures counts { SeenStay self.old.disk self.new.disk }
     {
         match &mut self.held {
@@ -111,7 +122,8 @@ impl<B: Disk> Backups<B> {
     /// What is told of the backups. The engine is opened.
     pub fn list(&self) -> Result<Infos, EngineError>
         requires engine { IsSome self.now.engine }
-        ensures told { IfOk result (λ infos. (start : Option Story) (plain : Plain) → Backs start self.now plain → infos_text infos ≡ list_text plain.backups) }
+        ensures told { IfOk result (λ infos. (start : Option Story) (plain : Plain)
+            → Backs start self.now plain → infos_text infos ≡ list_text plain.backups) }
         ensures cause { IfErr result (λ e. e ≡ errors.NoMemory) }
     {
         match &self.held {
@@ -129,8 +141,10 @@ impl<B: Disk> Backups<B> {
         name: &Folder,
     ) -> Result<u64, EngineError>
         requires engine { IsSome self.old.engine }
-        ensures restored { (start backups : Option Story) (outcome : Outcome) → Stands start place.old outcome → Backs backups self.old outcome.after
-            → RestoresOr start place.old place.new self.old.disk self.new.disk outcome id name.now result }
+        ensures restored { (start backups : Option Story) (outcome : Outcome)
+            → Stands start place.old outcome → Backs backups self.old outcome.after
+            → RestoresOr start place.old place.new self.old.disk self.new.disk outcome id name.now
+            result }
         ensures kept { (start : Option Story) (plain : Plain) → Backs start self.old plain → Backs start self.new plain }
         ensures counts { SeenStay self.old.disk self.new.disk }
         ensures line { ByOneLine place.old place.new }

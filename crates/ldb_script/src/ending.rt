@@ -117,7 +117,8 @@ pub fn broken(error: StoreError) -> Ended
 /// Prints the last line of a run, and gives its status. A sink that fails here changes no status.
 pub fn say<K: Sink>(sink: &mut K, text: &[u8], status: u8) -> u8
     ensures status { result ≡ status }
-    ensures spoke { Spoke (record { bytes = K.taken sink.old; faults = K.faults sink.old }) (record { bytes = K.taken sink.new; faults = K.faults sink.new }) text.now }
+    ensures spoke { Spoke (record { bytes = K.taken sink.old; faults = K.faults sink.old })
+        (record { bytes = K.taken sink.new; faults = K.faults sink.new }) text.now }
     ensures later { K.faults sink.old ≤ K.faults sink.new }
 {
     let _ = sink.write(text);
@@ -126,7 +127,8 @@ pub fn say<K: Sink>(sink: &mut K, text: &[u8], status: u8) -> u8
 
 // Says a line that was made, or that memory was wanting.
 fn say_made<K: Sink>(sink: &mut K, text: Result<Bytes, NoMemory>, status: u8) -> u8
-    ensures spoke { SpokeOr (record { bytes = K.taken sink.old; faults = K.faults sink.old }) (record { bytes = K.taken sink.new; faults = K.faults sink.new }) text status result }
+    ensures spoke { SpokeOr (record { bytes = K.taken sink.old; faults = K.faults sink.old })
+        (record { bytes = K.taken sink.new; faults = K.faults sink.new }) text status result }
     ensures later { K.faults sink.old ≤ K.faults sink.new }
 {
     match text {
@@ -137,7 +139,9 @@ fn say_made<K: Sink>(sink: &mut K, text: Result<Bytes, NoMemory>, status: u8) ->
 
 // Says what is in the way of the backups.
 fn end_in_way<K: Sink>(alloc: Global, sink: &mut K, why: EngineError) -> u8
-    ensures ends { ((result ≡ 6) × SpokeWay (record { bytes = K.taken sink.old; faults = K.faults sink.old }) (record { bytes = K.taken sink.new; faults = K.faults sink.new }) why) ⊎ (result ≡ 8) }
+    ensures ends { ((result ≡ 6) × SpokeWay
+        (record { bytes = K.taken sink.old; faults = K.faults sink.old })
+        (record { bytes = K.taken sink.new; faults = K.faults sink.new }) why) ⊎ (result ≡ 8) }
     ensures later { K.faults sink.old ≤ K.faults sink.new }
 {
     match why {
@@ -153,7 +157,9 @@ fn end_in_way<K: Sink>(alloc: Global, sink: &mut K, why: EngineError) -> u8
 
 /// Prints the last line of a run, and gives its status.
 pub fn end<K: Sink>(alloc: Global, sink: &mut K, folder: &Folder, ended: Ended) -> u8
-    ensures ends { EndsWith folder.now (record { bytes = K.taken sink.old; faults = K.faults sink.old }) (record { bytes = K.taken sink.new; faults = K.faults sink.new }) ended result }
+    ensures ends { EndsWith folder.now
+        (record { bytes = K.taken sink.old; faults = K.faults sink.old })
+        (record { bytes = K.taken sink.new; faults = K.faults sink.new }) ended result }
     ensures later { K.faults sink.old ≤ K.faults sink.new }
 {
     match ended {

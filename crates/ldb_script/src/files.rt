@@ -67,10 +67,12 @@ pub(crate) fn open_files<D: Disk>(
     log: &Path,
     len: u64,
 ) -> Result<PlainFiles<D::View>, StoreError>
-    ensures log { IfOk result (λ files. option_map (λ file. D.View.viewed file.view) files.log ≡ where_any len (opened log.now len (D.seen disk.old).told)) }
+    ensures log { IfOk result (λ files. option_map (λ file. D.View.viewed file.view) files.log ≡
+        where_any len (opened log.now len (D.seen disk.old).told)) }
     ensures log_number { IfOk result (λ files. option_map (λ file. file.number) files.log ≡ where_any len 2) }
     ensures current { IfOk result (λ files. D.View.viewed files.current ≡ opened (current_path home.now) 16 (D.seen disk.old).told) }
-    ensures manifest { IfOk result (λ files. D.View.viewed files.manifest.view ≡ opened (manifest_path home.now) 13 (D.seen disk.old).told) }
+    ensures manifest { IfOk result (λ files. D.View.viewed files.manifest.view ≡ opened
+        (manifest_path home.now) 13 (D.seen disk.old).told) }
     ensures manifest_number { IfOk result (λ files. files.manifest.number ≡ 1) }
     ensures told { (D.seen disk.new).told ≡ (D.seen disk.old).told }
     ensures refused { IfErr result (IsRefused (HasViews home.now log.now len) (D.seen disk.old) (D.seen disk.new)) }
@@ -107,7 +109,8 @@ fn plain_files<V>(log: Option<PlainFile<V>>, pair: Pair<V>) -> PlainFiles<V>
 // Takes the log's view back, where there is one.
 fn close_log<D: Disk>(disk: &mut D, log: Option<PlainFile<D::View>>)
     ensures told { (D.seen disk.new).told ≡ (D.seen disk.old).told }
-    ensures faults { 0 < faults_of (log_views (option_map (λ file. D.View.viewed file.view) log)) → Rose (D.seen disk.old).faults (D.seen disk.new).faults }
+    ensures faults { 0 < faults_of (log_views (option_map (λ file. D.View.viewed file.view) log))
+        → Rose (D.seen disk.old).faults (D.seen disk.new).faults }
     ensures counts { SeenStay (D.seen disk.old) (D.seen disk.new) }
 {
     match log {
@@ -119,7 +122,10 @@ fn close_log<D: Disk>(disk: &mut D, log: Option<PlainFile<D::View>>)
 // Takes the views back. One that had a fault raises the disk's count.
 pub(crate) fn close_files<D: Disk>(disk: &mut D, files: PlainFiles<D::View>)
     ensures told { (D.seen disk.new).told ≡ (D.seen disk.old).told }
-    ensures faults { 0 < faults_of (plain_views (option_map (λ file. D.View.viewed file.view) files.log) (D.View.viewed files.current) (D.View.viewed files.manifest.view)) → Rose (D.seen disk.old).faults (D.seen disk.new).faults }
+    ensures faults { 0 < faults_of (plain_views
+        (option_map (λ file. D.View.viewed file.view) files.log)
+        (D.View.viewed files.current) (D.View.viewed files.manifest.view))
+        → Rose (D.seen disk.old).faults (D.seen disk.new).faults }
     ensures counts { SeenStay (D.seen disk.old) (D.seen disk.new) }
 {
     let PlainFiles {

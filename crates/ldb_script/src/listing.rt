@@ -4,13 +4,14 @@ ghost use Rattle.std.specs.List.{flat_map};
 ghost use Rattle.std.specs.FinMap as finite;
 ghost use Rattle.std.specs.BTreeMap.{IsOrdered};
 ghost use Rattle.lsm_rows.specs.Replay.{key_cmp};
-ghost use Rattle.lsm_recover.specs.Contents.{pair_of};
+ghost use Rattle.lsm_rows.specs.Pairs.{pair_of};
 ghost use Rattle.ldb_script.specs.Printed.{pair_line, scan_text, line_of_info, infos_text, folder_text};
 
 use crate::printing::{push_end, push_info, push_pair, sequence_line};
 use bk_engine::BackupInfo;
 use lsm_bytes::{Bytes, NoMemory};
-use lsm_recover::{Found, Pairs};
+use lsm_recover::Found;
+use lsm_rows::Pairs;
 use std::alloc::Global;
 use std::collections::BTreeMap;
 

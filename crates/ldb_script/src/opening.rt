@@ -87,7 +87,8 @@ fn current_text(alloc: Global) -> Result<Bytes, NoMemory>
 
 // Makes a new file of these bytes, and syncs it. Its name is not sure before the next sync of names.
 fn write_file<D: Disk>(disk: &mut D, path: &Path, bytes: &[u8]) -> Result<(), OpenError>
-    ensures made { OnOk result (Leads (λ s. no_room path.now s ≡ None) (AddsFile path.now bytes.now) (D.seen disk.old).told (D.seen disk.new).told) }
+    ensures made { OnOk result (Leads (λ s. no_room path.now s ≡ None) (AddsFile path.now bytes.now)
+        (D.seen disk.old).told (D.seen disk.new).told) }
     ensures refused { IfErr result (IsHindered (file_calls path.now) (λ s. no_room path.now s ≡ None) (D.seen disk.old) (D.seen disk.new)) }
     ensures counts { SeenStay (D.seen disk.old) (D.seen disk.new) }
 {
@@ -106,7 +107,9 @@ fn write_file<D: Disk>(disk: &mut D, path: &Path, bytes: &[u8]) -> Result<(), Op
 // Makes the folder and the manifest in it.
 fn make_manifest<D: Disk>(disk: &mut D, folder: &Folder, text: &[u8]) -> Result<(), OpenError>
     requires { text.now ≡ first_manifest }
-    ensures made { OnOk result (Leads (IsFreeFolder folder.now) (Fills folder.now (HasManifest folder.now)) (D.seen disk.old).told (D.seen disk.new).told) }
+    ensures made { OnOk result (Leads (IsFreeFolder folder.now)
+        (Fills folder.now (HasManifest folder.now)) (D.seen disk.old).told
+        (D.seen disk.new).told) }
     ensures refused { IfErr result (IsHindered (manifest_calls folder.now) (IsFreeFolder folder.now) (D.seen disk.old) (D.seen disk.new)) }
     ensures counts { SeenStay (D.seen disk.old) (D.seen disk.new) }
 {
@@ -122,8 +125,11 @@ fn make_manifest<D: Disk>(disk: &mut D, folder: &Folder, text: &[u8]) -> Result<
 // outlive each crash too.
 fn write_current<D: Disk>(disk: &mut D, folder: &Folder, text: &[u8]) -> Result<(), OpenError>
     requires { text.now ≡ first_current }
-    ensures made { OnOk result (Leads (HasManifest folder.now) (Fills folder.now (HasTemporary folder.now)) (D.seen disk.old).told (D.seen disk.new).told) }
-    ensures refused { IfErr result (IsHindered (write_calls (temporary_path folder.now)) (HasManifest folder.now) (D.seen disk.old) (D.seen disk.new)) }
+    ensures made { OnOk result (Leads (HasManifest folder.now)
+        (Fills folder.now (HasTemporary folder.now)) (D.seen disk.old).told
+        (D.seen disk.new).told) }
+    ensures refused { IfErr result (IsHindered (write_calls (temporary_path folder.now))
+        (HasManifest folder.now) (D.seen disk.old) (D.seen disk.new)) }
     ensures counts { SeenStay (D.seen disk.old) (D.seen disk.new) }
 {
     let temporary = folder.file(&FileName::Temp(MANIFEST));
@@ -135,8 +141,10 @@ fn write_current<D: Disk>(disk: &mut D, folder: &Folder, text: &[u8]) -> Result<
 
 // Gives `CURRENT` its name.
 fn name_current<D: Disk>(disk: &mut D, folder: &Folder) -> Result<(), OpenError>
-    ensures made { OnOk result (Leads (HasTemporary folder.now) (Fills folder.now (HasCurrent folder.now)) (D.seen disk.old).told (D.seen disk.new).told) }
-    ensures refused { IfErr result (IsHindered (switch_calls (current_path folder.now)) (HasTemporary folder.now) (D.seen disk.old) (D.seen disk.new)) }
+    ensures made { OnOk result (Leads (HasTemporary folder.now)
+        (Fills folder.now (HasCurrent folder.now)) (D.seen disk.old).told (D.seen disk.new).told) }
+    ensures refused { IfErr result (IsHindered (switch_calls (current_path folder.now))
+        (HasTemporary folder.now) (D.seen disk.old) (D.seen disk.new)) }
     ensures counts { SeenStay (D.seen disk.old) (D.seen disk.new) }
 {
     let temporary = folder.file(&FileName::Temp(MANIFEST));
@@ -150,7 +158,8 @@ fn name_current<D: Disk>(disk: &mut D, folder: &Folder) -> Result<(), OpenError>
 // Makes the empty log.
 fn make_log<D: Disk>(alloc: Global, disk: &mut D, folder: &Folder) -> Result<Wal, OpenError>
     ensures log { IfOk result (λ wal. wal ≡ record { path = log_path folder.now; len = 0 }) }
-    ensures made { OnOk result (Leads (HasCurrent folder.now) (Fills folder.now (HasStore folder.now)) (D.seen disk.old).told (D.seen disk.new).told) }
+    ensures made { OnOk result (Leads (HasCurrent folder.now)
+        (Fills folder.now (HasStore folder.now)) (D.seen disk.old).told (D.seen disk.new).told) }
     ensures refused { IfErr result (IsHindered (log_calls folder.now) (HasCurrent folder.now) (D.seen disk.old) (D.seen disk.new)) }
     ensures counts { SeenStay (D.seen disk.old) (D.seen disk.new) }
 {
@@ -163,7 +172,8 @@ fn make_log<D: Disk>(alloc: Global, disk: &mut D, folder: &Folder) -> Result<Wal
 // Makes the folder and its files. The bytes are made first, so that want of memory for them leaves nothing.
 fn make_files<D: Disk>(alloc: Global, disk: &mut D, folder: &Folder) -> Result<Wal, OpenError>
     ensures log { IfOk result (λ wal. wal ≡ record { path = log_path folder.now; len = 0 }) }
-    ensures made { OnOk result (Leads (IsFreeFolder folder.now) (Fills folder.now (HasStore folder.now)) (D.seen disk.old).told (D.seen disk.new).told) }
+    ensures made { OnOk result (Leads (IsFreeFolder folder.now)
+        (Fills folder.now (HasStore folder.now)) (D.seen disk.old).told (D.seen disk.new).told) }
     ensures refused { IfErr result (IsHindered (filling_calls folder.now) (IsFreeFolder folder.now) (D.seen disk.old) (D.seen disk.new)) }
     ensures counts { SeenStay (D.seen disk.old) (D.seen disk.new) }
 {

@@ -58,8 +58,10 @@ impl<D: Disk> Place<D> {
         id: u32,
         name: &Folder,
     ) -> Result<u64, EngineError>
-        ensures restored { (start backups : Option Story) (outcome : Outcome) → Stands start self.old outcome → Keeps backups engine.old.disk engine.old outcome.after
-            → RestoresOr start self.old self.new engine.old.disk engine.new.disk outcome id name.now result }
+        ensures restored { (start backups : Option Story) (outcome : Outcome)
+            → Stands start self.old outcome → Keeps backups engine.old.disk engine.old outcome.after
+            → RestoresOr start self.old self.new engine.old.disk engine.new.disk outcome id name.now
+            result }
         ensures told { engine.new.disk.told ≡ engine.old.disk.told }
         ensures metas { engine.new.metas ≡ engine.old.metas }
         ensures given { engine.new.given ≡ engine.old.given }

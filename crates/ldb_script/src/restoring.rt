@@ -47,7 +47,9 @@ pub(crate) fn restore_onto<D: Disk, B: Disk>(
     name: &Folder,
 ) -> (D, Result<u64, EngineError>)
     ensures unlisted { meta_by id engine.old.metas ≡ None → (result.1 ≡ Err (errors.NoSuchBackup id)) × (D.seen result.0 ≡ D.seen disk) }
-    ensures restored { (meta : Meta) → meta_by id engine.old.metas ≡ Some meta → RestoresOnto meta engine.old.disk engine.new.disk (D.seen disk) (D.seen result.0) name.now result.1 }
+    ensures restored { (meta : Meta) → meta_by id engine.old.metas ≡ Some meta
+        → RestoresOnto meta engine.old.disk engine.new.disk (D.seen disk) (D.seen result.0) name.now
+        result.1 }
     ensures told { engine.new.disk.told ≡ engine.old.disk.told }
     ensures metas { engine.new.metas ≡ engine.old.metas }
     ensures given { engine.new.given ≡ engine.old.given }

@@ -89,7 +89,8 @@ fn answer_write<D: Disk>(
 ) -> Result<Bytes, Ended>
     requires some { 1 ≤ length ops.now }
     requires room { HasRoom store.old }
-    ensures done { (start : Option Story) (outcome : Outcome) → Stands start store.old outcome → StoreAnsweredOr start store.old store.new outcome (Command.Write durable ops.now) result }
+    ensures done { (start : Option Story) (outcome : Outcome) → Stands start store.old outcome
+        → StoreAnsweredOr start store.old store.new outcome (Command.Write durable ops.now) result }
     ensures line { ByOneLine store.old store.new }
 {
     match build_batch(alloc, ops) {
@@ -103,7 +104,8 @@ fn answer_write<D: Disk>(
 
 // Makes all writes durable, and makes the answer.
 fn answer_sync<D: Disk>(alloc: Global, store: &mut Store<D>) -> Result<Bytes, Ended>
-    ensures done { (start : Option Story) (outcome : Outcome) → Stands start store.old outcome → StoreAnsweredOr start store.old store.new outcome Command.Sync result }
+    ensures done { (start : Option Story) (outcome : Outcome) → Stands start store.old outcome
+        → StoreAnsweredOr start store.old store.new outcome Command.Sync result }
     ensures line { ByOneLine store.old store.new }
 {
     match store.sync() {
@@ -122,9 +124,13 @@ fn answer_stored<D: Disk, B: Disk, C: Clock>(
 ) -> Result<Bytes, Ended>
     requires room { HasRoom store.old }
     requires other { IsNoRestore command.now }
-    ensures done { (origin : Origin) (outcome : Outcome) → AreAt origin (tools store.old backups.old (stream C.left C.faults clock.old)) outcome
-        → AnsweredOr origin (tools store.old backups.old (stream C.left C.faults clock.old)) (tools store.new backups.new (stream C.left C.faults clock.new)) outcome command.now result }
-    ensures line { ByLine (tools store.old backups.old (stream C.left C.faults clock.old)) (tools store.new backups.new (stream C.left C.faults clock.new)) }
+    ensures done { (origin : Origin) (outcome : Outcome)
+        → AreAt origin (tools store.old backups.old (stream C.left C.faults clock.old)) outcome
+        → AnsweredOr origin (tools store.old backups.old (stream C.left C.faults clock.old))
+        (tools store.new backups.new (stream C.left C.faults clock.new)) outcome command.now
+        result }
+    ensures line { ByLine (tools store.old backups.old (stream C.left C.faults clock.old))
+        (tools store.new backups.new (stream C.left C.faults clock.new)) }
 {
     match command {
         Command::Write { durable, ops } => answer_write(alloc, store, ops.as_slice(), *durable),
@@ -148,9 +154,13 @@ fn answer<D: Disk, B: Disk, C: Clock>(
     command: &Command,
 ) -> Result<Bytes, Ended>
     requires { HasRoom place.old }
-    ensures done { (origin : Origin) (outcome : Outcome) → AreAt origin (tools place.old backups.old (stream C.left C.faults clock.old)) outcome
-        → AnsweredOr origin (tools place.old backups.old (stream C.left C.faults clock.old)) (tools place.new backups.new (stream C.left C.faults clock.new)) outcome command.now result }
-    ensures line { ByLine (tools place.old backups.old (stream C.left C.faults clock.old)) (tools place.new backups.new (stream C.left C.faults clock.new)) }
+    ensures done { (origin : Origin) (outcome : Outcome)
+        → AreAt origin (tools place.old backups.old (stream C.left C.faults clock.old)) outcome
+        → AnsweredOr origin (tools place.old backups.old (stream C.left C.faults clock.old))
+        (tools place.new backups.new (stream C.left C.faults clock.new)) outcome command.now
+        result }
+    ensures line { ByLine (tools place.old backups.old (stream C.left C.faults clock.old))
+        (tools place.new backups.new (stream C.left C.faults clock.new)) }
 {
     if let Command::RestoreBackup { id, name } = command {
         return answer_restore(alloc, place, backups, *id, name);
@@ -171,10 +181,15 @@ fn serve<K: Sink, D: Disk, B: Disk, C: Clock>(
     command: &Command,
 ) -> Result<(), Ended>
     requires { HasRoom place.old }
-    ensures done { (origin : Origin) (outcome : Outcome) → AreAt origin (tools place.old backups.old (stream C.left C.faults clock.old)) outcome
-        → ServedOr origin (stream K.taken K.faults sink.old) (stream K.taken K.faults sink.new) (tools place.old backups.old (stream C.left C.faults clock.old)) (tools place.new backups.new (stream C.left C.faults clock.new)) outcome command.now result }
+    ensures done { (origin : Origin) (outcome : Outcome)
+        → AreAt origin (tools place.old backups.old (stream C.left C.faults clock.old)) outcome
+        → ServedOr origin (stream K.taken K.faults sink.old) (stream K.taken K.faults sink.new)
+        (tools place.old backups.old (stream C.left C.faults clock.old))
+        (tools place.new backups.new (stream C.left C.faults clock.new)) outcome command.now
+        result }
     ensures later { K.faults sink.old ≤ K.faults sink.new }
-    ensures line { ByLine (tools place.old backups.old (stream C.left C.faults clock.old)) (tools place.new backups.new (stream C.left C.faults clock.new)) }
+    ensures line { ByLine (tools place.old backups.old (stream C.left C.faults clock.old))
+        (tools place.new backups.new (stream C.left C.faults clock.new)) }
 {
     match answer(alloc, place, backups, clock, command) {
         Ok(text) => match sink.write(text.as_slice()) {
@@ -198,10 +213,16 @@ fn do_line<K: Sink, D: Disk, B: Disk, C: Clock>(
 ) -> Result<(), Ended>
     requires short { length line.now ≤ 8388608 }
     requires room { HasRoom place.old }
-    ensures done { (origin : Origin) (outcome : Outcome) → AreAt origin (tools place.old backups.old (stream C.left C.faults clock.old)) outcome → actors.old ≡ outcome.after.actors
-        → DoneOr origin (stream K.taken K.faults sink.old) (stream K.taken K.faults sink.new) (tools place.old backups.old (stream C.left C.faults clock.old)) (tools place.new backups.new (stream C.left C.faults clock.new)) actors.new outcome line.now number result }
+    ensures done { (origin : Origin) (outcome : Outcome)
+        → AreAt origin (tools place.old backups.old (stream C.left C.faults clock.old)) outcome
+        → actors.old ≡ outcome.after.actors
+        → DoneOr origin (stream K.taken K.faults sink.old) (stream K.taken K.faults sink.new)
+        (tools place.old backups.old (stream C.left C.faults clock.old))
+        (tools place.new backups.new (stream C.left C.faults clock.new)) actors.new outcome
+        line.now number result }
     ensures later { K.faults sink.old ≤ K.faults sink.new }
-    ensures line { ByLine (tools place.old backups.old (stream C.left C.faults clock.old)) (tools place.new backups.new (stream C.left C.faults clock.new)) }
+    ensures line { ByLine (tools place.old backups.old (stream C.left C.faults clock.old))
+        (tools place.new backups.new (stream C.left C.faults clock.new)) }
 {
     match actors.parse(alloc, line) {
         Err(NoMemory) => Err(Ended::NoMemory),
@@ -230,12 +251,19 @@ fn turn<S: Source, K: Sink, D: Disk, B: Disk, C: Clock>(
     requires sequence { place.old.sequence ≤ 1024 * (number - 1) }
     requires len { place.old.len ≤ 67108864 * (number - 1) }
     ensures turned { (origin : Origin) (first : Met) (done : List (List ℕ)) (outcome : Outcome)
-        → Underway origin (now first (stream S.left S.faults source.old) (stream K.taken K.faults sink.old) place.old.disk backups.old.disk (stream C.left C.faults clock.old)) (tools place.old backups.old (stream C.left C.faults clock.old)) actors.old done outcome
+        → Underway origin (now first (stream S.left S.faults source.old)
+        (stream K.taken K.faults sink.old) place.old.disk backups.old.disk
+        (stream C.left C.faults clock.old))
+        (tools place.old backups.old (stream C.left C.faults clock.old)) actors.old done outcome
         → number ≡ length done + 1
-        → TurnedOr origin (now first (stream S.left S.faults source.new) (stream K.taken K.faults sink.new) place.new.disk backups.new.disk (stream C.left C.faults clock.new)) (tools place.new backups.new (stream C.left C.faults clock.new)) actors.new done result }
+        → TurnedOr origin (now first (stream S.left S.faults source.new)
+        (stream K.taken K.faults sink.new) place.new.disk backups.new.disk
+        (stream C.left C.faults clock.new))
+        (tools place.new backups.new (stream C.left C.faults clock.new)) actors.new done result }
     ensures source_later { S.faults source.old ≤ S.faults source.new }
     ensures sink_later { K.faults sink.old ≤ K.faults sink.new }
-    ensures line { ByLine (tools place.old backups.old (stream C.left C.faults clock.old)) (tools place.new backups.new (stream C.left C.faults clock.new)) }
+    ensures line { ByLine (tools place.old backups.old (stream C.left C.faults clock.old))
+        (tools place.new backups.new (stream C.left C.faults clock.new)) }
 {
     match read_line(source, line) {
         Ok(Piece::Line) => do_line(
@@ -292,12 +320,19 @@ fn run<S: Source, K: Sink, D: Disk, B: Disk, C: Clock>(
 ) -> Ended
     requires sequence { place.old.sequence ≡ 0 }
     requires len { place.old.len ≡ 0 }
-    ensures ran { (origin : Origin) → AreAt origin (tools place.old backups.old (stream C.left C.faults clock.old)) (told (empty origin.start) [])
-        → Ran origin (met (stream S.left S.faults source.old) (stream S.left S.faults source.new) (stream K.taken K.faults sink.old) (stream K.taken K.faults sink.new)
-        place.old.disk place.new.disk backups.old.disk backups.new.disk (stream C.left C.faults clock.old) (stream C.left C.faults clock.new)) (tools place.new backups.new (stream C.left C.faults clock.new)) result }
+    ensures ran { (origin : Origin)
+        → AreAt origin (tools place.old backups.old (stream C.left C.faults clock.old))
+        (told (empty origin.start) [])
+        → Ran origin (met (stream S.left S.faults source.old) (stream S.left S.faults source.new)
+        (stream K.taken K.faults sink.old) (stream K.taken K.faults sink.new) place.old.disk
+        place.new.disk backups.old.disk backups.new.disk (stream C.left C.faults clock.old)
+        (stream C.left C.faults clock.new))
+        (tools place.new backups.new (stream C.left C.faults clock.new)) result }
     ensures log { place.new.log ≡ place.old.log }
-    ensures counts { CountsStay (met (stream S.left S.faults source.old) (stream S.left S.faults source.new) (stream K.taken K.faults sink.old) (stream K.taken K.faults sink.new)
-        place.old.disk place.new.disk backups.old.disk backups.new.disk (stream C.left C.faults clock.old) (stream C.left C.faults clock.new)) }
+    ensures counts { CountsStay (met (stream S.left S.faults source.old)
+        (stream S.left S.faults source.new) (stream K.taken K.faults sink.old)
+        (stream K.taken K.faults sink.new) place.old.disk place.new.disk backups.old.disk
+        backups.new.disk (stream C.left C.faults clock.old) (stream C.left C.faults clock.new)) }
 {
     let mut actors = Actors::new(alloc);
     let mut line = Bytes::new(alloc);
@@ -321,7 +356,8 @@ fn run<S: Source, K: Sink, D: Disk, B: Disk, C: Clock>(
 }
 
 fn sync_last<D: Disk>(store: &mut Store<D>) -> Ended
-    ensures synced { (start : Option Story) (outcome : Outcome) → Stands start store.old outcome → LastOr start store.old store.new outcome result }
+    ensures synced { (start : Option Story) (outcome : Outcome) → Stands start store.old outcome
+        → LastOr start store.old store.new outcome result }
     ensures line { ByOneLine store.old store.new }
 {
     match store.sync() {
@@ -332,9 +368,13 @@ fn sync_last<D: Disk>(store: &mut Store<D>) -> Ended
 
 // Makes all writes durable where the source was read to its end.
 fn close<D: Disk>(place: &mut Place<D>, ended: Ended) -> Ended
-    ensures closed { (origin : Origin) (first : Met) (source sink : Stream) (backups : Vault) (clock : Stream) → CountsStay (now first source sink place.old.disk backups.disk clock)
-        → Ran origin (now first source sink place.old.disk backups.disk clock) (tools place.old backups clock) ended
-        → Closed origin (now first source sink place.new.disk backups.disk clock) (tools place.new backups clock) result }
+    ensures closed { (origin : Origin) (first : Met) (source sink : Stream) (backups : Vault)
+        (clock : Stream)
+        → CountsStay (now first source sink place.old.disk backups.disk clock)
+        → Ran origin (now first source sink place.old.disk backups.disk clock)
+        (tools place.old backups clock) ended
+        → Closed origin (now first source sink place.new.disk backups.disk clock)
+        (tools place.new backups clock) result }
     ensures line { ByOneLine place.old place.new }
 {
     match ended {
@@ -363,8 +403,11 @@ pub fn run_script<R: Threads + Sync, S: Source, K: Sink, D: Disk, B: Disk, N: Se
     _sessions: &mut N,
     clock: &mut C,
 ) -> Done<D, B>
-    ensures run { IsRun db.now (met (stream S.left S.faults source.old) (stream S.left S.faults source.new) (stream K.taken K.faults sink.old) (stream K.taken K.faults sink.new)
-        (D.seen store_disk) (D.seen result.store_disk) (B.seen backup_disk) (B.seen result.backup_disk) (stream C.left C.faults clock.old) (stream C.left C.faults clock.new)) result.status }
+    ensures run { IsRun db.now (met (stream S.left S.faults source.old)
+        (stream S.left S.faults source.new) (stream K.taken K.faults sink.old)
+        (stream K.taken K.faults sink.new) (D.seen store_disk) (D.seen result.store_disk)
+        (B.seen backup_disk) (B.seen result.backup_disk) (stream C.left C.faults clock.old)
+        (stream C.left C.faults clock.new)) result.status }
 {
     match Store::open(alloc, store_disk, db) {
         Ok(store) => {

@@ -36,7 +36,8 @@ pub fn answer_show<D: Disk>(
     store: &mut Store<D>,
     name: &Folder,
 ) -> Result<Bytes, Ended>
-    ensures done { (start : Option Story) (outcome : Outcome) → Stands start store.old outcome → StoreAnsweredOr start store.old store.new outcome (Command.ShowFolder name.now) result }
+    ensures done { (start : Option Story) (outcome : Outcome) → Stands start store.old outcome
+        → StoreAnsweredOr start store.old store.new outcome (Command.ShowFolder name.now) result }
     ensures line { ByOneLine store.old store.new }
 {
     match store.show(name) {

@@ -14,8 +14,8 @@ use bk_engine::{BackupEngine, EngineError, PlainFiles};
 use lsm_bytes::{Bytes, NoMemory};
 use lsm_disk::{Disk, DiskCall, DiskError, DiskRefusal};
 use lsm_names::{Folder, Path};
-use lsm_recover::{FolderError, Found, Pairs, read_folder};
-use lsm_rows::Batch;
+use lsm_recover::{FolderError, Found, read_folder};
+use lsm_rows::{Batch, Pairs};
 use lsm_wal::Wal;
 use std::alloc::Global;
 use std::marker::Model;
@@ -126,7 +126,8 @@ impl<D: Disk> Store<D> {
     pub fn write(&mut self, batch: &Batch, sync: bool) -> Result<u64, StoreError>
         requires some { 1 ≤ length batch.now }
         requires room { HasRoom self.old }
-        ensures writes { (start : Option Story) (outcome : Outcome) → Stands start self.old outcome → Writes start self.old self.new outcome batch.now sync result }
+        ensures writes { (start : Option Story) (outcome : Outcome) → Stands start self.old outcome
+            → Writes start self.old self.new outcome batch.now sync result }
         ensures line { ByOneLine self.old self.new }
     {
         let last = self.sequence + batch.len() as u64;
@@ -144,7 +145,8 @@ impl<D: Disk> Store<D> {
 
     /// Makes all batches outlive each crash. After a refusal the store is not used again.
     pub fn sync(&mut self) -> Result<(), StoreError>
-        ensures syncs { (start : Option Story) (outcome : Outcome) → Stands start self.old outcome → Syncs start self.old self.new outcome result }
+        ensures syncs { (start : Option Story) (outcome : Outcome) → Stands start self.old outcome
+            → Syncs start self.old self.new outcome result }
         ensures line { ByOneLine self.old self.new }
     {
         let log = *self.wal.path();
@@ -157,7 +159,8 @@ impl<D: Disk> Store<D> {
     /// What the folder of this name on the store's disk holds now, read from the disk. It writes nothing.
     pub fn show(&mut self, name: &Folder) -> Result<Found, FolderError>
         ensures stands { (start : Option Story) (outcome : Outcome) → Stands start self.old outcome → Stands start self.new outcome }
-        ensures shown { (start : Option Story) (outcome : Outcome) → Stands start self.old outcome → ReadsAs (standing_of outcome.after name.now) result }
+        ensures shown { (start : Option Story) (outcome : Outcome) → Stands start self.old outcome
+            → ReadsAs (standing_of outcome.after name.now) result }
         ensures cause { HasFolderCause name.now self.old.disk self.new.disk result }
         ensures line { ByOneLine self.old self.new }
     {
@@ -169,12 +172,18 @@ impl<D: Disk> Store<D> {
     /// writes nothing, and the views have had no fault. After a refusal the store is not used again.
     pub fn files(&mut self) -> Result<PlainFiles<D::View>, StoreError>
         ensures stands { (start : Option Story) (outcome : Outcome) → Stands start self.old outcome → Stands start self.new outcome }
-        ensures views { IfOk result (λ files. (start : Option Story) (outcome : Outcome) → Stands start self.old outcome
-            → HasFiles start outcome.accepted (plain_names (option_map (λ file. file.number) files.log) files.manifest.number) (plain_views (option_map (λ file. D.View.viewed file.view) files.log) (D.View.viewed files.current) (D.View.viewed files.manifest.view))) }
-        ensures fresh { IfOk result (λ files. faults_of (plain_views (option_map (λ file. D.View.viewed file.view) files.log) (D.View.viewed files.current) (D.View.viewed files.manifest.view)) ≡ 0) }
+        ensures views { IfOk result (λ files. (start : Option Story) (outcome : Outcome)
+            → Stands start self.old outcome
+            → HasFiles start outcome.accepted
+            (plain_names (option_map (λ file. file.number) files.log) files.manifest.number) (plain_views (option_map (λ file. D.View.viewed file.view) files.log)
+            (D.View.viewed files.current) (D.View.viewed files.manifest.view))) }
+        ensures fresh { IfOk result (λ files. faults_of (plain_views
+            (option_map (λ file. D.View.viewed file.view) files.log)
+            (D.View.viewed files.current) (D.View.viewed files.manifest.view)) ≡ 0) }
         ensures log { IfOk result (λ files. IfSome files.log (λ file. IsTrue (is_file_number file.number))) }
         ensures manifest { IfOk result (λ files. IsTrue (is_file_number files.manifest.number)) }
-        ensures refused { IfErr result (λ error. (start : Option Story) (outcome : Outcome) → Stands start self.old outcome → IsBroken start self.old self.new error) }
+        ensures refused { IfErr result (λ error. (start : Option Story) (outcome : Outcome)
+            → Stands start self.old outcome → IsBroken start self.old self.new error) }
         ensures line { ByOneLine self.old self.new }
     {
         let files = open_files(&mut self.disk, &self.home, self.wal.path(), self.wal.len())?;
@@ -184,7 +193,10 @@ impl<D: Disk> Store<D> {
     /// Takes views of files back. One that had a fault raises the disk's count of faults.
     pub fn take_back(&mut self, files: PlainFiles<D::View>)
         ensures stands { (start : Option Story) (outcome : Outcome) → Stands start self.old outcome → Stands start self.new outcome }
-        ensures faults { 0 < faults_of (plain_views (option_map (λ file. D.View.viewed file.view) files.log) (D.View.viewed files.current) (D.View.viewed files.manifest.view)) → Rose self.old.disk.faults self.new.disk.faults }
+        ensures faults { 0 < faults_of (plain_views
+            (option_map (λ file. D.View.viewed file.view) files.log)
+            (D.View.viewed files.current) (D.View.viewed files.manifest.view))
+            → Rose self.old.disk.faults self.new.disk.faults }
         ensures untouched { IsUntouched self.old self.new }
         ensures counts { SeenStay self.old.disk self.new.disk }
     {
@@ -199,8 +211,10 @@ impl<D: Disk> Store<D> {
         id: u32,
         name: &Folder,
     ) -> (Store<D>, Result<u64, EngineError>)
-        ensures restored { (start backups : Option Story) (outcome : Outcome) → Stands start self outcome → Keeps backups engine.old.disk engine.old outcome.after
-            → RestoresOr start self result.0 engine.old.disk engine.new.disk outcome id name.now result.1 }
+        ensures restored { (start backups : Option Story) (outcome : Outcome)
+            → Stands start self outcome → Keeps backups engine.old.disk engine.old outcome.after
+            → RestoresOr start self result.0 engine.old.disk engine.new.disk outcome id name.now
+            result.1 }
         ensures told { engine.new.disk.told ≡ engine.old.disk.told }
         ensures metas { engine.new.metas ≡ engine.old.metas }
         ensures given { engine.new.given ≡ engine.old.given }

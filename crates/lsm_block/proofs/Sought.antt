@@ -61,7 +61,7 @@ ordered_keys es i j d e are less first second =
     let b = key_at es j e [] second in
     (λ k. internal_cmp (sym a.1 k) (sym b.1 k)) ∙ Less-from_sorted internal_cmp (keys_of es) i j [] are.ascend less b.0
 
-is_less : (o : Ordering) → is_lt o ≡ true → o ≡ Less
+pub is_less : (o : Ordering) → is_lt o ≡ true → o ≡ Less
 is_less Less is = refl
 is_less Equal is = cc
 is_less Greater is = cc

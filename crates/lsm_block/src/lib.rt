@@ -7,8 +7,6 @@ mod entries;
 mod errors;
 mod laws;
 mod reading;
-#[cfg(test)]
-mod tests;
 mod writing;
 
 pub use blocks::Block;

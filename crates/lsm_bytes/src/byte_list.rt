@@ -175,22 +175,3 @@ impl Ord for Bytes {
         self.items.cmp(&other.items)
     }
 }
-
-#[cfg(test)]
-mod tests {
-    use super::*;
-    use std::test::Fail;
-
-    #[test]
-    fn a_list_grows_while_there_is_memory(rt: HostRuntime) -> Result<(), Fail> {
-        let mut list = Bytes::from_slice(rt.alloc(), b"lo")?;
-        list.reserve(2)?;
-        list.push(b'g')?;
-        list.extend_from_slice(b"log")?;
-        list.truncate(4);
-        assert_eq!(rt; list.as_slice(), b"logl".as_slice());
-        assert!(rt; list.copy(rt.alloc())? == list);
-        assert!(rt; Bytes::from_vec(list.into_vec()) > Bytes::from_slice(rt.alloc(), b"log")?);
-        Ok(())
-    }
-}

@@ -116,28 +116,3 @@ fn after_eight(register: u32, eight: u64) -> u32
     }
     after
 }
-
-#[cfg(test)]
-mod tests {
-    use super::*;
-
-    #[test]
-    fn known_bytes_have_their_known_checksums(rt: HostRuntime) {
-        assert_eq!(rt; checksum(b"123456789"), 3_808_858_755);
-        assert_eq!(rt; checksum(b""), 0);
-        assert_eq!(rt; checksum(&[0; 32]), 0x8A91_36AA);
-        assert_eq!(rt; checksum(&[0xFF; 32]), 0x62A8_AB43);
-    }
-
-    #[test]
-    fn known_checksums_are_kept_as_known_numbers(rt: HostRuntime) {
-        assert_eq!(rt; mask(3_808_858_755), 0xC78A_B0E5);
-        assert_eq!(rt; mask(0), 0xA282_EAD8);
-    }
-
-    fn checksum(bytes: &[u8]) -> u32 {
-        let mut crc = Crc::new();
-        crc.update(bytes);
-        crc.value()
-    }
-}

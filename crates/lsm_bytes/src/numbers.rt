@@ -47,17 +47,3 @@ fn bytes_at(bytes: &[u8], at: usize, size: usize) -> Result<&[u8], Malformed>
     }
     Ok(bytes.split_at(at).1)
 }
-
-#[cfg(test)]
-mod tests {
-    use super::*;
-
-    #[test]
-    fn the_lowest_byte_comes_first(rt: HostRuntime) {
-        let bytes = b"\x00\x01\x02\x03\x04\x05\x06\x07\x08".as_slice();
-        assert_eq!(rt; read_u16(bytes, 7), Ok(0x0807));
-        assert_eq!(rt; read_u32(bytes, 5), Ok(0x0807_0605));
-        assert_eq!(rt; read_u64(bytes, 1), Ok(0x0807_0605_0403_0201));
-        assert_eq!(rt; read_u64(bytes, 2), Err(Malformed { place: 9 }));
-    }
-}

@@ -1,6 +1,6 @@
 -- What is kept after a use and after a block was put, and of which table it is.
 use Rattle.std.proofs.Common.{◌≡◌, ◌≢◌, ℕ, Bool, true, false, cond, not, ◌==◌, ◌&&◌, ◌⊎◌, List, [], ◌∷◌, filter, Contains, Some, None, refl, sym, ap, subst, ◌∙◌, inl, inr}
-use Rattle.std.proofs.lemmas.Bool.{eqb-true, eq-eqb}
+use Rattle.std.proofs.lemmas.Bool.{eqb-true, eq-eqb, and_parts}
 use Rattle.std.specs.Map.{lookup, lookup_entry}
 use Rattle.lru.specs.LruCache.{lru_cache}
 use Rattle.lru.proofs.CallerLemmas.{Contains-lookup, Contains-promoted, Contains-put_entries}
@@ -14,16 +14,10 @@ use Rattle.lsm_cache.specs.declared.blocks.BlockPlace.{BlockPlace}
 use Rattle.lsm_cache.specs.Kept.{Kept, is_at, no_blocks, used, with_block, without_table}
 use Rattle.lsm_cache.specs.Getting.{IsBlockOf, AreBlocksOf}
 
-both_true : (a b : Bool) → (a && b) ≡ true → (a ≡ true) × (b ≡ true)
-both_true true true h = (refl, refl)
-both_true true false h = cc
-both_true false true h = cc
-both_true false false h = cc
-
 -- a place that passes the test has these two numbers
 same_place : (number place : ℕ) (at : BlockPlace) → is_at number place at ≡ true → (at.number ≡ number) × (at.place ≡ place)
 same_place number place at passes =
-    let both = both_true (number == at.number) (place == at.place) passes in
+    let both = and_parts (number == at.number) (place == at.place) passes in
     (sym (eqb-true number at.number both.0), sym (eqb-true place at.place both.1))
 
 module _ {K V : Type 0} (test : K → Bool) where

@@ -4,8 +4,6 @@
 mod blocks;
 mod getting;
 mod laws;
-#[cfg(test)]
-mod tests;
 
 pub use blocks::{BlockCache, BlockPlace};
 pub use getting::cached_get;

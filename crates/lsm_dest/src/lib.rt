@@ -5,7 +5,5 @@ mod ending;
 mod folder_dest;
 mod halting;
 mod hand;
-#[cfg(test)]
-mod tests;
 
 pub use folder_dest::FolderDest;

@@ -1,3 +1,4 @@
+pub mod CallCodes
 pub mod Names
 pub mod State
 pub mod Tree

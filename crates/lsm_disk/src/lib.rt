@@ -6,8 +6,6 @@ mod dest;
 mod disk;
 mod laws;
 mod listing;
-#[cfg(test)]
-mod tests;
 mod view;
 
 pub use calls::{DiskCall, DiskError, DiskRefusal, Halt, Kind};

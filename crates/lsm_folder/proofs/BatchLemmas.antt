@@ -2,7 +2,7 @@
 use Rattle.std.specs.Prelude.{◌≡◌, ℕ, zero, suc, ◌+◌, ◌-◌, ◌*◌, ◌/◌, ◌%◌, ◌^◌, ◌<◌, ◌≤◌, Bool, true, false, cond, ◌&&◌, nat_lt, nat_le, List, [], ◌∷◌, ◌++◌, length, take, drop, All, Option, Some, None}
 use Rattle.std.proofs.Common.{refl, ap, subst, ◌∙◌, arith}
 use Rattle.std.proofs.lemmas.Bool.Decides.{nat_tests}
-use Rattle.std.proofs.lemmas.Bool.{cases_lt}
+use Rattle.std.proofs.lemmas.Bool.{cases_lt, and_parts}
 use Rattle.std.proofs.Common.{⊎_elim, append_assoc}
 use Rattle.std.proofs.lemmas.List.Elements.{All-head, All-tail, All-nil, All-cons}
 use Rattle.std.proofs.lemmas.Nat.{from_le_bytes-to_le_bytes_4, from_le_bytes-to_le_bytes_8}
@@ -16,10 +16,10 @@ use Rattle.lsm_rows.specs.declared.operations.Op.TheVariants.{Put, Delete}
 use Rattle.lsm_rows.specs.BatchText.{sized, op_text, batch_text, text_len}
 use Rattle.lsm_rows.specs.Limits.{key_len, value_len, key_limit, value_limit, count_limit, bytes_limit, OpInLimits}
 use Rattle.lsm_rows.specs.Decoding.{IsBatchText, IsSomeBatch}
-use Rattle.lsm_names.proofs.PathLemmas.{both}
 use Rattle.lsm_wal.specs.Batches.{Logged, text_of, IsLogged}
 use Rattle.lsm_folder.specs.Batches.{number_ahead, sized_ahead, op_ahead, ops_ahead, claimed, op_fits, batch_fits, batch_of}
-use Rattle.lsm_folder.proofs.NameLemmas.{same_text, equal_texts, some_of, and_true}
+use Rattle.lsm_folder.proofs.NameLemmas.{same_text, equal_texts, and_true}
+use Rattle.std.proofs.lemmas.Option.{same_Some}
 
 at_most : (m n : ℕ) → nat_le m n ≡ true → m ≤ n
 at_most m n h = grind (arith, nat_tests)
@@ -107,7 +107,7 @@ claimed_back first ops small few =
 
 op_fits_says : (op : Op) → op_fits op ≡ true → OpInLimits op
 op_fits_says op h =
-    let parts = both (nat_le (key_len op) key_limit) (nat_le (value_len op) value_limit) h in
+    let parts = and_parts (nat_le (key_len op) key_limit) (nat_le (value_len op) value_limit) h in
     record { key = at_most (key_len op) key_limit parts.0; value = at_most (value_len op) value_limit parts.1 }
 
 fits_op : (op : Op) → OpInLimits op → op_fits op ≡ true
@@ -116,7 +116,7 @@ fits_op op h = and_true _ _ (within (key_len op) key_limit h.key) (within (value
 all_fit_says : (ops : List Op) → list_all op_fits ops ≡ true → All OpInLimits ops
 all_fit_says [] h = All-nil OpInLimits
 all_fit_says (op ∷ ops) h =
-    let parts = both (op_fits op) (list_all op_fits ops) h in
+    let parts = and_parts (op_fits op) (list_all op_fits ops) h in
     All-cons OpInLimits op ops (op_fits_says op parts.0) (all_fit_says ops parts.1)
 
 all_fit : (ops : List Op) → All OpInLimits ops → list_all op_fits ops ≡ true
@@ -136,10 +136,10 @@ fits_logged batch h =
 logged_fits : (batch : Logged) → batch_fits batch ≡ true → IsLogged batch
 unfolding batch_fits
 logged_fits batch h =
-    let most = both _ _ h in
-    let count = both _ _ most.0 in
-    let each = both _ _ count.0 in
-    let some = both _ _ each.0 in
+    let most = and_parts _ _ h in
+    let count = and_parts _ _ most.0 in
+    let each = and_parts _ _ count.0 in
+    let some = and_parts _ _ each.0 in
     record {
       is = refl;
       some = at_most 1 (length batch.ops) some.0;
@@ -165,9 +165,9 @@ batch_is text batch h =
     let l = claimed text in
     elim (batch_fits l && bytes_eq text (text_of l)) as (λ b. (batch_fits l && bytes_eq text (text_of l)) ≡ b → cond b (Some l) None ≡ Some batch → IsBatchText text batch.first batch.ops) [
       | true ↦ λ is e.
-          let parts = both (batch_fits l) (bytes_eq text (text_of l)) is in
+          let parts = and_parts (batch_fits l) (bytes_eq text (text_of l)) is in
           let logged = logged_fits l parts.0 in
-          subst (λ (x : Logged). IsBatchText text x.first x.ops) (some_of l batch e)
+          subst (λ (x : Logged). IsBatchText text x.first x.ops) (same_Some l batch e)
           (record { is = equal_texts text (text_of l) parts.1; some = logged.some; limits = logged.limits; last = logged.last })
       | false ↦ λ is e. cc
     ] refl h

@@ -21,6 +21,7 @@ use Rattle.lsm_folder.specs.declared.refusals.Refusal.TheVariants.{Malformed, Da
 use Rattle.lsm_folder.specs.Edits.{Edit, first_edit, edit_of, edited, version_of}
 use Rattle.lsm_folder.specs.Reading.{◌>>=◌, some_or, read_to_end, edits_in, some_edits, edits_said}
 use Rattle.lsm_folder.specs.Plain.{GivesVersion, IsRefusedBy, version_by, frame_trouble}
+use Rattle.std.proofs.lemmas.Option.{same_Some}
 
 -- what the records behind the first so many come to
 abbrev pub edits_behind : FileName → List ℕ → ℕ → Result (List Edit) Refusal
@@ -56,12 +57,9 @@ one_later : (edits : List Edit) (edit : Edit) (rest : Result (List Edit) Refusal
 one_later edits edit (Err refusal) = refl
 one_later edits edit (Ok more) = ap Ok (sym (append_assoc edits (edit ∷ []) more))
 
-some_of : {A : Type 0} (x y : A) → Some x ≡ Some y → x ≡ y
-some_of x y e = cc
-
 drop_next : {A : Type 0} (xs : List A) (n : ℕ) (x : A) → slice_get xs n ≡ Some x → drop n xs ≡ x ∷ drop (suc n) xs
 drop_next [] n x is = cc
-drop_next (y ∷ xs) zero x is = ap (λ z. z ∷ xs) (some_of y x is)
+drop_next (y ∷ xs) zero x is = ap (λ z. z ∷ xs) (same_Some y x is)
 drop_next (y ∷ xs) (suc n) x is = drop_next xs n x is
 
 drop_at : {A : Type 0} (xs : List A) (n : ℕ) (x : A) → slice_get xs n ≡ Some x → drop n xs ≡ x ∷ drop (n + 1) xs
@@ -115,9 +113,9 @@ module _ (name : FileName) (text : List ℕ) (given : ℕ) where
       → edits_said name text ≡ Err refusal
   edits_trouble version frame.ReadFault refusal r ends is = cc
   edits_trouble version (frame.Damaged place kept found) refusal r ends is =
-      whole version r (Err (Damaged name place kept found)) (at_end (ending.Damaged place kept found) ends) ∙ ap Err (some_of (Damaged name place kept found) refusal is)
+      whole version r (Err (Damaged name place kept found)) (at_end (ending.Damaged place kept found) ends) ∙ ap Err (same_Some (Damaged name place kept found) refusal is)
   edits_trouble version (frame.Malformed place) refusal r ends is =
-      whole version r (Err (Malformed name place)) (at_end (ending.Malformed place) ends) ∙ ap Err (some_of (Malformed name place) refusal is)
+      whole version r (Err (Malformed name place)) (at_end (ending.Malformed place) ends) ∙ ap Err (same_Some (Malformed name place) refusal is)
   edits_trouble version frame.NoMemory refusal r ends is = cc
 
   -- the end, where nothing is wrong behind the edits
@@ -133,7 +131,7 @@ module _ (name : FileName) (text : List ℕ) (given : ℕ) where
 
   some_version : (edits : List Edit) (v : Version) → Some v ≡ version_in edits → (some_edits name edits ≡ Ok edits) × (v ≡ version_of edits)
   some_version [] v is = cc
-  some_version (edit ∷ edits) v is = (refl, some_of v (version_of (edit ∷ edits)) is)
+  some_version (edit ∷ edits) v is = (refl, same_Some v (version_of (edit ∷ edits)) is)
 
   pub edits_none : (version : Option Version) → EditsRead name text given version → edits_behind name text given ≡ Ok [] → version ≡ None → edits_said name text ≡ Err (Malformed name 0)
   edits_none version r is none = all_read version r is ∙ no_edits r.edits (sym none ∙ r.made)

@@ -15,7 +15,8 @@ use Rattle.lsm_disk.proofs.Paths.{same_path, path_itself, number}
 use Rattle.lsm_disk.proofs.Moves.{under_is, inside_joined}
 use Rattle.lsm_folder.specs.Names.{name_cmp, names_total, names_exact, name_of}
 use Rattle.lsm_folder.specs.Files.{Item, A_file, item_of, item_at, Nothing, Not_a_folder, Stands_with, name_in, with_name, entries_in, files_in, place_by, place_of}
-use Rattle.lsm_folder.proofs.NameLemmas.{some_of, name_again, name_only}
+use Rattle.lsm_folder.proofs.NameLemmas.{name_again, name_only}
+use Rattle.std.proofs.lemmas.Option.{same_Some}
 
 -- ---- tests of keys
 
@@ -83,7 +84,7 @@ module _ (first : ℕ) (more : List ℕ) where
     same_test : (path : List ℕ) (other : FileName) → name_in dir path ≡ Some other → eq_by_cmp name_cmp name other ≡ eq_by_cmp path_cmp (path_of name) path
     same_test path other is = alike _ _
         (λ e. subst (λ (p : List ℕ). eq_by_cmp path_cmp (path_of name) p ≡ true) (ap path_of (same_name name other e) ∙ sym (path_is path other is).0) (path_itself (path_of name)))
-        (λ e. subst (λ (n : FileName). eq_by_cmp name_cmp name n ≡ true) (some_of name other (sym (in_folder name fits) ∙ ap (name_in dir) (same_path (path_of name) path e) ∙ is)) (name_itself name))
+        (λ e. subst (λ (n : FileName). eq_by_cmp name_cmp name n ≡ true) (same_Some name other (sym (in_folder name fits) ∙ ap (name_in dir) (same_path (path_of name) path e) ∙ is)) (name_itself name))
 
     none_test : (path : List ℕ) → name_in dir path ≡ None → eq_by_cmp path_cmp (path_of name) path ≡ false
     none_test path none = alike _ false

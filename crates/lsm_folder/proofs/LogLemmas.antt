@@ -20,6 +20,7 @@ use Rattle.lsm_folder.specs.Batches.{batch_of}
 use Rattle.lsm_folder.specs.Reading.{◌>>=◌, LogText, with_batch, batches_in, log_of, follow_on, not_torn, batches_of}
 use Rattle.lsm_folder.specs.Logs.{outcome}
 use Rattle.lsm_folder.proofs.BatchLemmas.{batch_found, batch_none}
+use Rattle.std.proofs.lemmas.Option.{same_Some}
 
 -- ---- what a text says
 
@@ -55,12 +56,9 @@ drop_all [] (suc n) is = absurd (omega (arith, is))
 drop_all (x ∷ xs) zero is = absurd (omega (arith, is))
 drop_all (x ∷ xs) (suc n) is = drop_all xs n (omega (arith, is))
 
-some_of : {A : Type 0} (x y : A) → Some x ≡ Some y → x ≡ y
-some_of x y e = cc
-
 drop_at : {A : Type 0} (xs : List A) (n : ℕ) (x : A) → slice_get xs n ≡ Some x → drop n xs ≡ x ∷ drop (suc n) xs
 drop_at [] n x is = cc
-drop_at (y ∷ xs) zero x is = ap (λ z. z ∷ xs) (some_of y x is)
+drop_at (y ∷ xs) zero x is = ap (λ z. z ∷ xs) (same_Some y x is)
 drop_at (y ∷ xs) (suc n) x is = drop_at xs n x is
 
 module _ (expected : ℕ) (text : List ℕ) (batches : List (List Op)) where

@@ -11,17 +11,18 @@ use Rattle.std.proofs.lemmas.Slice.Eq.{bytes_eq-Decides}
 use Rattle.lsm_names.specs.declared.file_names.FileName.{FileName}
 use Rattle.lsm_names.specs.declared.file_names.FileName.TheVariants.{Log, Table, Manifest, Temp, Current}
 use Rattle.lsm_names.specs.FileNames.{spelled, IsFileName, six_digits, is_file_number}
-use Rattle.lsm_names.proofs.PathLemmas.{both}
 use Rattle.lsm_names.proofs.NumberLemmas.{padded_value}
 use Rattle.lsm_names.proofs.FileNameLemmas.{file_number_fits, six_are_digits, spelled_injective}
 use Rattle.lsm_folder.specs.Names.{digits_in, names_of, is_spelling, name_of, current_text, manifest_in}
+use Rattle.std.proofs.lemmas.Option.{same_Some}
+use Rattle.std.proofs.lemmas.Bool.{and_parts}
 
 -- ---- the digits of a text
 
 filter_all : {X : Type 0} (test : X → Bool) (xs : List X) → list_all test xs ≡ true → filter test xs ≡ xs
 filter_all test [] h = refl
 filter_all test (x ∷ xs) h =
-    let parts = both (test x) (list_all test xs) h in
+    let parts = and_parts (test x) (list_all test xs) h in
     ap (λ (b : Bool). cond b (x ∷ filter test xs) (filter test xs)) parts.0 ∙ ap (λ (l : List _). x ∷ l) (filter_all test xs parts.1)
 
 -- digits between two texts that have none
@@ -48,9 +49,6 @@ same_text text = (bytes_eq-Decides text text).1 refl
 pub equal_texts : (left right : List ℕ) → bytes_eq left right ≡ true → left ≡ right
 equal_texts left right = (bytes_eq-Decides left right).0
 
-pub some_of : {A : Type 0} (x y : A) → Some x ≡ Some y → x ≡ y
-some_of x y e = ap (λ o. unwrap_or o x) e
-
 pub and_true : (a b : Bool) → a ≡ true → b ≡ true → (a && b) ≡ true
 and_true a b p q = cc
 
@@ -61,7 +59,7 @@ pub record Spells (text : List ℕ) (name : FileName) : Type 0 where
 
 numbered : (text : List ℕ) (number : ℕ) (name : FileName) → (is_file_number number && bytes_eq text (spelled name)) ≡ true → (is_file_number number ≡ true) × (text ≡ spelled name)
 numbered text number name h =
-    let parts = both (is_file_number number) (bytes_eq text (spelled name)) h in
+    let parts = and_parts (is_file_number number) (bytes_eq text (spelled name)) h in
     (parts.0, equal_texts text (spelled name) parts.1)
 
 spells : (text : List ℕ) (name : FileName) → is_spelling text name ≡ true → Spells text name
@@ -89,7 +87,7 @@ module _ {X : Type 0} (test : X → Bool) where
   found_is : (xs : List X) (x : X) → find test xs ≡ Some x → test x ≡ true
   found_is [] x h = cc
   found_is (y ∷ xs) x h = elim (test y) as (λ b. test y ≡ b → cond b (Some y) (find test xs) ≡ Some x → test x ≡ true) [
-    | true ↦ λ is e. subst (λ (z : X). test z ≡ true) (some_of y x e) is
+    | true ↦ λ is e. subst (λ (z : X). test z ≡ true) (same_Some y x e) is
     | false ↦ λ is e. found_is xs x e
   ] refl h
 
@@ -147,7 +145,7 @@ manifest_only text number h =
     let n = digits_in text in
     elim (is_file_number n && bytes_eq text (current_text n)) as (λ b. (is_file_number n && bytes_eq text (current_text n)) ≡ b → cond b (Some n) None ≡ Some number → NamesManifest text number) [
       | true ↦ λ is e.
-          let parts = both (is_file_number n) (bytes_eq text (current_text n)) is in
-          subst (NamesManifest text) (some_of n number e) (record { fits = parts.0; is = equal_texts text (current_text n) parts.1 })
+          let parts = and_parts (is_file_number n) (bytes_eq text (current_text n)) is in
+          subst (NamesManifest text) (same_Some n number e) (record { fits = parts.0; is = equal_texts text (current_text n) parts.1 })
       | false ↦ λ is e. cc
     ] refl h

@@ -19,25 +19,9 @@ use Rattle.lsm_folder.specs.Plain.{item_held, entry_of, folder_of, manifest_numb
 use Rattle.lsm_names.specs.declared.file_names.FileName.TheVariants.{Log, Table, Manifest, Temp, Current}
 use Rattle.lsm_names.proofs.FileNameLemmas.{spelled_injective}
 use Rattle.std.proofs.lemmas.List.{append_cancel_right, take-append-drop, length-append}
+use Rattle.lsm_rows.proofs.Lists.{drop_here, drop_end}
 
 -- ---- the entries behind a place
-
--- behind a place that is there stands its element
-drop_next : {X : Type 0} (xs : List X) (i : ℕ) (x : X) → i < length xs → x ≡ get_or xs i x → drop i xs ≡ x ∷ drop (suc i) xs
-drop_next [] i x there is = absurd (omega (arith, there))
-drop_next (y ∷ xs) zero x there is = ap (λ z. z ∷ xs) (sym is)
-drop_next (y ∷ xs) (suc i) x there is = drop_next xs i x (omega (arith, there)) is
-
-pub drop_here : {X : Type 0} (xs : List X) (i : ℕ) (x : X) → i < length xs → x ≡ get_or xs i x → drop i xs ≡ x ∷ drop (i + 1) xs
-drop_here xs i x there is =
-    let next : suc i ≡ i + 1 = omega arith in
-    drop_next xs i x there is ∙ ap (λ (n : ℕ). x ∷ drop n xs) next
-
-pub drop_end : {X : Type 0} (xs : List X) (i : ℕ) → length xs ≤ i → drop i xs ≡ []
-drop_end [] zero all = refl
-drop_end [] (suc i) all = refl
-drop_end (x ∷ xs) zero all = absurd (omega (arith, all))
-drop_end (x ∷ xs) (suc i) all = drop_end xs i (omega (arith, all))
 
 -- whether a name comes before those of the entries from a place on, and whether these stand in their order
 abbrev pub below_from : FileName → List Held → ℕ → Bool

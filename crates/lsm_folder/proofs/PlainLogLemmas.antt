@@ -33,12 +33,11 @@ use Rattle.lsm_folder.specs.Reading.{◌>>=◌, LogText, Texts, AllRows, log_of,
 use Rattle.lsm_folder.specs.Plain.{IsInOrder, IsRefusedBy, GivesVersion, HaveRead, before_batches, entry_of, folder_of, logs_in, trouble_of}
 use Rattle.lsm_folder.proofs.LiveLemmas.{same_entries, entries_of_logs}
 use Rattle.lsm_folder.proofs.LogLemmas.{read_log}
-use Rattle.lsm_folder.proofs.PlainLemmas.{drop_here, drop_end}
+use Rattle.std.proofs.lemmas.Option.{same_Some}
+use Rattle.lsm_rows.proofs.Replaying.{sequence_next, sequence_both}
+use Rattle.lsm_rows.proofs.Lists.{drop_here, drop_end}
 
 -- ---- one log
-
-some_of : {A : Type 0} (x y : A) → Some x ≡ Some y → x ≡ y
-some_of x y e = cc
 
 module _ (is_last : Bool) (number expected : ℕ) (bytes : List ℕ) where
   abbrev pub this_log : Result (List (List Op)) Refusal
@@ -52,7 +51,7 @@ module _ (is_last : Bool) (number expected : ℕ) (bytes : List ℕ) where
   hindered : (last : Bool) (name : FileName) (torn : Option ℕ) (batches : List (List Op)) (place : ℕ) → cond last None torn ≡ Some place → not_torn last name (open_end torn) batches ≡ Err (TornLog name place)
   hindered true name torn batches place is = cc
   hindered false name None batches place is = cc
-  hindered false name (Some at) batches place is = ap (λ (p : ℕ). Err (TornLog name p)) (some_of at place is)
+  hindered false name (Some at) batches place is = ap (λ (p : ℕ). Err (TornLog name p)) (same_Some at place is)
 
   pub log_taken : (batches : List (List Op)) (torn : Option ℕ) → IsReading expected bytes batches (At_end (open_end torn)) → cond is_last None torn ≡ None → this_log ≡ Ok batches
   log_taken batches torn r none = read_log is_last number expected bytes batches (At_end (open_end torn)) r ∙ not_hindered is_last (Log number) torn batches none
@@ -63,15 +62,15 @@ module _ (is_last : Bool) (number expected : ℕ) (bytes : List ℕ) where
   pub log_trouble : (reason : WalWhy) (refusal : Refusal) → IsTrouble expected bytes reason → trouble_of (Log number) reason ≡ Some refusal → this_log ≡ Err refusal
   log_trouble why.ReadFault refusal trouble is = cc
   log_trouble (why.Damaged place kept found) refusal trouble is =
-      read_log is_last number expected bytes trouble.0 (At_end (ending.Damaged place kept found)) trouble.1 ∙ ap Err (some_of (Damaged (Log number) place kept found) refusal is)
+      read_log is_last number expected bytes trouble.0 (At_end (ending.Damaged place kept found)) trouble.1 ∙ ap Err (same_Some (Damaged (Log number) place kept found) refusal is)
   log_trouble (why.Malformed place) refusal trouble is =
-      read_log is_last number expected bytes trouble.0 (At_end (ending.Malformed place)) trouble.1 ∙ ap Err (some_of (Malformed (Log number) place) refusal is)
+      read_log is_last number expected bytes trouble.0 (At_end (ending.Malformed place)) trouble.1 ∙ ap Err (same_Some (Malformed (Log number) place) refusal is)
   log_trouble why.NoMemory refusal trouble is = cc
   log_trouble (why.BadBatch place) refusal trouble is =
-      read_log is_last number expected bytes trouble.0 (At_no_batch place) trouble.1 ∙ ap Err (some_of (Malformed (Log number) place) refusal is)
+      read_log is_last number expected bytes trouble.0 (At_no_batch place) trouble.1 ∙ ap Err (same_Some (Malformed (Log number) place) refusal is)
   log_trouble (why.Gap kept found) refusal trouble is =
       read_log is_last number expected bytes trouble.0 (At_gap found) trouble.2
-      ∙ ap (λ (k : ℕ). Err (Gap (Log number) k found)) (sym trouble.1) ∙ ap Err (some_of (Gap (Log number) kept found) refusal is)
+      ∙ ap (λ (k : ℕ). Err (Gap (Log number) k found)) (sym trouble.1) ∙ ap Err (same_Some (Gap (Log number) kept found) refusal is)
 
 sequence_small : (expected : ℕ) (batches : List (List Op)) → expected ≤ 2 ^ 56 → All IsLogged (in_sequence expected batches) → sequence_after expected batches ≤ 2 ^ 56
 sequence_small expected [] small each = small
@@ -114,12 +113,6 @@ module _ (least : ℕ) (folder : List Held) where
 none_before : (r : Result (List (List Op)) Refusal) → r ≡ before_batches [] r
 none_before (Err refusal) = refl
 none_before (Ok batches) = refl
-
-sequence_next : (first : ℕ) (batches : List (List Op)) → sequence_after (first + 1) batches ≡ sequence_after first batches + 1
-sequence_next first [] = refl
-sequence_next first (ops ∷ batches) =
-    let moved : first + 1 + length ops ≡ first + length ops + 1 = omega arith in
-    ap (λ (n : ℕ). sequence_after n batches) moved ∙ sequence_next (first + length ops) batches
 
 -- no entry, or one that is no such log
 pub nothing_read : (last : ℕ) (r : Result (List (List Op)) Refusal) (rest : ℕ → Result (List (List Op)) Refusal) (batches : List (List Op)) → last < 2 ^ 56 → r ≡ rest (last + 1) → HaveRead last r rest batches batches last
@@ -173,10 +166,6 @@ module _ (least last : ℕ) (folder : List Held) (batches : List (List Op)) (sma
 before_both : (one two : List (List Op)) (rest : Result (List (List Op)) Refusal) → before_batches one (before_batches two rest) ≡ before_batches (one ++ two) rest
 before_both one two (Err refusal) = refl
 before_both one two (Ok more) = ap Ok (sym (append_assoc one two more))
-
-sequence_both : (first : ℕ) (one two : List (List Op)) → sequence_after (sequence_after first one) two ≡ sequence_after first (one ++ two)
-sequence_both first [] two = refl
-sequence_both first (ops ∷ one) two = sequence_both (first + length ops) one two
 
 drop_once : {A : Type 0} (i : ℕ) (xs : List A) → drop 1 (drop i xs) ≡ drop (suc i) xs
 drop_once zero xs = refl

@@ -33,6 +33,7 @@ use Rattle.lsm_folder.specs.Reading.{◌>>=◌, some_or, AllRows, Texts, current
 use Rattle.lsm_folder.specs.Logs.{outcome, shown_by}
 use Rattle.lsm_folder.specs.Needed.{HasOneLog, sequences, Lawful, Stands, IsPrefixShown, is_aside, IsFresh}
 use Rattle.lsm_folder.proofs.OneLogLemmas.{one_log_reads}
+use Rattle.lsm_rows.proofs.ReplayedRows.{sequence-is}
 
 -- ---- no two rows of logs have one sequence
 
@@ -56,14 +57,10 @@ unfolding IsDistinct
 apart least [] h = tt
 apart least (x ∷ xs) h = (apart_above x (x + 1) xs (omega arith) h.1, apart (x + 1) xs h.1)
 
-sequence_is : (sequence : ℕ) (op : Op) → (row_of sequence op).sequence ≡ sequence
-sequence_is sequence (Put key value) = refl
-sequence_is sequence (Delete key) = refl
-
 batch_rises : (first : ℕ) (ops : List Op) (rest : List Row) → Rising (first + length ops) (sequences rest) → Rising first (sequences (batch_rows first ops ++ rest))
 batch_rises first [] rest h = sooner first (first + 0) (sequences rest) (omega arith) h
 batch_rises first (op ∷ ops) rest h =
-    let is = sequence_is first op in
+    let is = sequence-is first op in
     let later : Rising (first + 1 + length ops) (sequences rest) = sooner (first + 1 + length ops) (first + length (op ∷ ops)) (sequences rest) (omega arith) h in
     (omega (arith, is), subst (λ (n : ℕ). Rising (n + 1) (sequences (batch_rows (first + 1) ops ++ rest))) (sym is) (batch_rises (first + 1) ops rest later))
 

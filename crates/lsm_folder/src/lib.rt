@@ -8,8 +8,6 @@ mod memory;
 mod order;
 mod plain;
 mod refusals;
-#[cfg(test)]
-mod tests;
 mod version;
 
 pub use laws::{

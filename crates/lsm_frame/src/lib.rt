@@ -9,11 +9,7 @@ mod loaded;
 mod next;
 mod pieces;
 mod reader;
-#[cfg(test)]
-mod reader_tests;
 mod steps;
-#[cfg(test)]
-mod tests;
 mod writer;
 
 pub use ending::Ending;

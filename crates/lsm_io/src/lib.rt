@@ -14,8 +14,6 @@ mod sessions;
 mod sinks;
 mod sources;
 mod stops;
-#[cfg(test)]
-mod tests;
 
 pub use adapters::{StdSink, StdSource};
 pub use clocks::{Clock, ListClock};

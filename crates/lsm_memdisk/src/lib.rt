@@ -4,8 +4,6 @@
 
 mod disk;
 mod plan;
-#[cfg(test)]
-mod tests;
 mod view;
 
 pub use disk::MemDisk;

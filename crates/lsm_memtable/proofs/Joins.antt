@@ -24,6 +24,7 @@ use Rattle.lsm_memtable.proofs.Sorting.{sorted_nil, filter_all}
 use Rattle.lsm_memtable.proofs.TakingBack.{is_below}
 use Rattle.lsm_memtable.proofs.KeptRows.{keeps_newer}
 use Rattle.lsm_memtable.proofs.Pushes.{all_left, all_right}
+use Rattle.lsm_rows.proofs.ReplayedRows.{sequence-is}
 
 is_below_yes : (n first : ℕ) → n < first → nat_lt n first ≡ true
 is_below_yes n first less = grind (arith, nat_tests)
@@ -101,10 +102,6 @@ pub length-batch : (first : ℕ) (ops : List Op) → length (batch_rows first op
 length-batch first [] = refl
 length-batch first (o ∷ ops) = omega (arith, length-batch (first + 1) ops)
 
-pub row-sequence : (sequence : ℕ) (op : Op) → (row_of sequence op).sequence ≡ sequence
-row-sequence sequence (Put key value) = refl
-row-sequence sequence (Delete key) = refl
-
 row-bytes : (sequence : ℕ) (op : Op) → row_bytes (row_of sequence op) ≡ op_bytes op
 row-bytes sequence (Put key value) = refl
 row-bytes sequence (Delete key) = refl
@@ -117,7 +114,7 @@ sum-batch first (o ∷ ops) = omega (arith, sum_by-cons row_bytes (row_of first 
 pub grown_op : (first : ℕ) (old now new : List Row) (ops : List Op) (op : Op) (row : Row) → IsGrown first old (batch_rows first ops) now → IsPut now row new → row ≡ row_of (first + length ops) op → IsGrown first old (batch_rows first (ops ++ op ∷ [])) new
 grown_op first old now new ops op row was put is =
     subst (λ l. IsGrown first old l new) (ap (λ r. batch_rows first ops ++ r ∷ []) is ∙ sym (batch-push first ops op))
-    (grown_more first old (batch_rows first ops) now new row was put (ap (λ (r : Row). r.sequence) is ∙ row-sequence (first + length ops) op ∙ ap (λ n. first + n) (sym (length-batch first ops))))
+    (grown_more first old (batch_rows first ops) now new row was put (ap (λ (r : Row). r.sequence) is ∙ sequence-is (first + length ops) op ∙ ap (λ n. first + n) (sym (length-batch first ops))))
 
 pub joined_grown : (first : ℕ) (old more now : List Row) → IsGrown first old more now → AreInOrder now → AreJoined old more now
 joined_grown first old more now grown order = record { same = grown.same; order = order; newest = grown.newest }
@@ -172,7 +169,7 @@ memory_none rows none = subst (λ l. IsMemory l 0 0) (sym none) (record { order 
 -- a later sequence is past all that have come
 pub past_grown : (first : ℕ) (old now : List Row) (ops : List Op) (sequence : ℕ) (op : Op) (row : Row) → IsGrown first old (batch_rows first ops) now → sequence ≡ first + length ops → row ≡ row_of sequence op → AllBefore row.sequence now
 past_grown first old now ops sequence op row grown is row_is =
-    let same : first + length (batch_rows first ops) ≡ row.sequence = omega (arith, length-batch first ops, is, ap (λ (r : Row). r.sequence) row_is, row-sequence sequence op) in
+    let same : first + length (batch_rows first ops) ≡ row.sequence = omega (arith, length-batch first ops, is, ap (λ (r : Row). r.sequence) row_is, sequence-is sequence op) in
     subst (λ n. AllBefore n now) same grown.before
 
 pub op_more : (first : ℕ) (old now new : List Row) (ops : List Op) (i : ℕ) (op : Op) (sequence : ℕ) (row : Row) → i < length ops → op ≡ get_or ops i op → sequence ≡ first + i → IsGrown first old (batch_rows first (take i ops)) now

@@ -10,13 +10,9 @@ use Rattle.lsm_rows.specs.declared.internal_keys.Kind.{Kind}
 use Rattle.lsm_rows.specs.declared.internal_keys.Kind.TheVariants.{Delete, Put}
 use Rattle.lsm_rows.specs.InternalKeys.{kind_byte, internal_key, internal_cmp, user_key, trailer}
 use Rattle.lsm_rows.specs.Replay.{key_cmp}
-use Rattle.lsm_rows.proofs.InternalOrder.{trailer_of, user_key_of}
+use Rattle.lsm_rows.proofs.InternalOrder.{trailer_of, user_key_of, kind_small}
 use Rattle.lsm_block.specs.TableText.{kind_of, row_entry}
 use Rattle.lsm_block.specs.Runs.{comes_after}
-
-kind_small : (kind : Kind) → kind_byte kind < 2
-kind_small Delete = omega arith
-kind_small Put = omega arith
 
 -- the number behind a row's user key
 abbrev pub number : Row → ℕ

@@ -8,8 +8,6 @@ mod places;
 mod progress;
 mod row_map;
 mod sizes;
-#[cfg(test)]
-mod tests;
 mod versions;
 
 pub use flush::{Flush, FlushPiece};

@@ -1,7 +1,6 @@
 -- What each event's step moves of a state's core.
 use Rattle.std.specs.Prelude.{◌≡◌, ℕ, ◌+◌, Bool, true, false, List, [], ◌∷◌, ◌++◌, length, Option, Some, None, Result}
 use Rattle.std.proofs.Common.{refl, sym, ap, subst, ◌∙◌, inl, inr}
-use Rattle.lsm_disk.specs.declared.calls.DiskCall.{DiskCall}
 use Rattle.lsm_names.specs.declared.file_names.FileName.{FileName}
 use Rattle.lsm_rows.specs.declared.operations.Op.{Op}
 use Rattle.lsm_rows.specs.Replay.{Contents}
@@ -10,7 +9,6 @@ use Rattle.lsm_model.specs.declared.errors.StoreError.{StoreError}
 use Rattle.lsm_model.specs.declared.cuts.FlushRule.{FlushRule}
 use Rattle.lsm_model.specs.declared.cuts.Cut.{Cut}
 use Rattle.lsm_model.specs.declared.cuts.LiveFiles.{LiveFiles}
-use Rattle.lsm_model.specs.declared.cuts.FlushRule.TheVariants as rule
 use Rattle.lsm_model.specs.declared.events.Event.{Event}
 use Rattle.lsm_model.specs.declared.events.Event.TheVariants as event
 use Rattle.lsm_model.specs.declared.events.Which.{Which}
@@ -30,8 +28,9 @@ use Rattle.lsm_model.specs.declared.states.PinnedFile.{PinnedFile}
 use Rattle.lsm_model.specs.declared.states.Holder.{Holder}
 use Rattle.lsm_model.specs.declared.states.Holder.TheVariants.{Caller, Checkpoint}
 use Rattle.lsm_model.specs.States.{built_by}
-use Rattle.lsm_model.specs.Moves.{Becomes, Settles, Flushes, Halts, HaltsSettling, FailsToRead, Fails, FailsSettling}
-use Rattle.lsm_model.specs.Answers.{Answers, Done, Failed, Wanting, Refused, MayFlush, FailsFlushing, AnswersFlushing, Usual, No_number, No_place}
+use Rattle.lsm_model.specs.Halting.{Aimed}
+use Rattle.lsm_model.specs.Moves.{Becomes, Settles, Draws, Flushes, Halts, HaltsSettling, FailsToRead, Fails}
+use Rattle.lsm_model.specs.Answers.{Answers, Done, Failed, Wanting, Refused, MayFlush, does_flush, FailsFlushing, AnswersFlushing, Usual, No_number, No_place}
 use Rattle.lsm_model.specs.Steps as Steps
 use Rattle.lsm_model.specs.Steps.{Given, Step, to_write}
 use Rattle.lsm_model.specs.Runs.{Core, core, Moves, Same, Wrote, Pinned, Spent, Unpinned, Stepped as Progressed, Published, Counted, where_ok, added_by}
@@ -53,37 +52,35 @@ module _ {s t : State} where
   pub flushes_same : Flushes s t → core t ≡ core s
   flushes_same f = ap core f.rest.rest.rest
 
-  pub halts_same : {calls : List DiskCall} → Halts calls s t → core t ≡ core s
+  pub halts_same : {calls : List Aimed} → Halts calls s t → core t ≡ core s
   halts_same h = ap core h.rest.rest
 
   pub reading_same : FailsToRead s t → core t ≡ core s
   reading_same f = ap core f.rest.rest
 
-  pub fails_same : {calls : List DiskCall} → Fails calls s t → core t ≡ core s
+  pub fails_same : {calls : List Aimed} → Fails calls s t → core t ≡ core s
   fails_same {calls = calls} f = elim f [ inl r ↦ reading_same r | inr h ↦ halts_same {calls = calls} h ]
 
-  pub draws_same : upkeep.Draws s t → core t ≡ core s
+  pub draws_same : {most : ℕ} → Draws most s t → core t ≡ core s
   draws_same d = ap core d.rest.rest.rest
 
+  pub merges_same : {most : ℕ} → upkeep.Merges most s t → core t ≡ core s
+  merges_same d = ap core d.rest.rest.rest
+
 module _ {s t : State} where
-  pub halts_settling_same : {calls : List DiskCall} → HaltsSettling calls s t → core t ≡ core s
+  pub halts_settling_same : {calls : List Aimed} → HaltsSettling calls s t → core t ≡ core s
   halts_settling_same {calls = calls} h = halts_same {calls = calls} h.halts ∙ settles_same h.before
 
-  pub fails_settling_same : {calls : List DiskCall} → FailsSettling calls s t → core t ≡ core s
-  fails_settling_same {calls = calls} h = fails_same {calls = calls} h.fails ∙ settles_same h.before
+pub may_flush_same : (s t : State) (flushes : Bool) → MayFlush flushes s t → core t ≡ core s
+may_flush_same s t true m = flushes_same m
+may_flush_same s t false m = becomes_same m
 
-pub may_flush_same : (s t : State) (by : FlushRule) → MayFlush by s t → core t ≡ core s
-may_flush_same s t rule.Never m = becomes_same m
-may_flush_same s t rule.Always m = flushes_same m
-may_flush_same s t (rule.AtLeast n) m = flushes_same m
-
-pub cuts_at_same : (s t : State) (by : FlushRule) → pins.CutsAt by s t → core t ≡ core s
-cuts_at_same s t rule.Never m = becomes_same m
-cuts_at_same s t rule.Always m = flushes_same m.rest
-cuts_at_same s t (rule.AtLeast n) m = elim m [ inl b ↦ becomes_same b | inr f ↦ flushes_same f.rest ]
+pub cuts_at_same : (s t : State) (flushes : Bool) → pins.CutsAt flushes s t → core t ≡ core s
+cuts_at_same s t true m = flushes_same m.rest
+cuts_at_same s t false m = becomes_same m
 
 pub flushing_fails_same : (s t : State) (by : FlushRule) → FailsFlushing by s t → core t ≡ core s
-flushing_fails_same s t by f = fails_same f.fails ∙ may_flush_same s f.flushed by f.before
+flushing_fails_same s t by f = halts_same f.halts ∙ flushes_same f.before
 
 -- ---- answers
 
@@ -144,9 +141,9 @@ module _ (s t : State) where
 
   flush_same : (result : Result Flushed StoreError) → upkeep.StepsFlush s result t → core t ≡ core s
   flush_same result a = elim a [
-    | upkeep.Usual b ↦ answers_same s t b flushed (λ f. fails_settling_same f.1) draws_same (stays_same s t)
-    | upkeep.No_number next is known some w ↦ draws_same w.rest
-    | upkeep.No_place live is known some is_live w ↦ draws_same w.rest
+    | upkeep.Usual b ↦ answers_same s t b flushed (λ f. halts_settling_same f.1) draws_same (stays_same s t)
+    | upkeep.No_number next is known some w d ↦ draws_same d
+    | upkeep.No_place live adding is known some w d ↦ draws_same d
   ]
 
   compaction_began : (which : Which) (began : Begun) → upkeep.BeginsAs s which t began → core t ≡ core s
@@ -157,19 +154,19 @@ module _ (s t : State) where
   compact_begin_same : (which : Which) (result : Result Begun StoreError) → upkeep.BeginsCompaction s which result t → core t ≡ core s
   compact_begin_same which result a = answers_same s t a (compaction_began which) (nothing_same s t) (stays_same s t) (stays_same s t)
 
-  merged : (did : Stepped) → upkeep.MergesAs s t did → core t ≡ core s
-  merged merge.NoJob d = stays_same s t d.1
-  merged merge.More d = draws_same d.1
-  merged merge.Installed d = ap core d.1.rest.rest.rest
+  merged : (rows : ℕ) (did : Stepped) → upkeep.MergesAs rows s t did → core t ≡ core s
+  merged rows merge.NoJob d = stays_same s t d.1
+  merged rows merge.More d = merges_same d.1
+  merged rows merge.Installed d = ap core d.1.rest.rest.rest ∙ merges_same d.1.before
 
-  merging_fails : upkeep.FailsMerging s t → core t ≡ core s
-  merging_fails f = elim f [ inl h ↦ halts_settling_same h | inr h ↦ fails_settling_same h ]
+  merging_fails : (rows : ℕ) → upkeep.FailsMerging rows s t → core t ≡ core s
+  merging_fails rows f = elim f [ inl h ↦ halts_settling_same h | inr h ↦ reading_same h.fails ∙ merges_same h.before ]
 
-  compact_step_same : (result : Result Stepped StoreError) → upkeep.StepsCompaction s result t → core t ≡ core s
-  compact_step_same result a = elim a [
-    | upkeep.Usual b ↦ answers_same s t b merged (λ f. merging_fails f.1) draws_same (stays_same s t)
-    | upkeep.No_number next is known some w ↦ draws_same w.rest
-    | upkeep.No_place live adding is known some w ↦ draws_same w.rest
+  compact_step_same : (rows : ℕ) (result : Result Stepped StoreError) → upkeep.StepsCompaction s rows result t → core t ≡ core s
+  compact_step_same rows result a = elim a [
+    | upkeep.Usual b ↦ answers_same s t b (merged rows) (λ f. merging_fails rows f.1) merges_same (stays_same s t)
+    | upkeep.No_number next is known some w d ↦ merges_same d
+    | upkeep.No_place live adding is known some w ↦ becomes_same w.rest ∙ merges_same w.before
   ]
 
   deleted : (did : Deleted) → upkeep.DeletesAs s t did → core t ≡ core s
@@ -187,19 +184,19 @@ module _ (s t : State) where
     | Usual b ↦ elim b [
       | Done x is known d ↦ does x d
       | Failed is known f ↦ Same refl (flushing_fails_same s t by f)
-      | Wanting is known w ↦ Same refl (may_flush_same s t by w)
+      | Wanting is known w ↦ Same refl (may_flush_same s t (does_flush by s) w)
       | Refused e is known h ↦ Same refl (stays_same s t h)
     ]
-    | No_number next is known l ↦ Same refl (may_flush_same s t by l.rest)
-    | No_place live adding is known l ↦ Same refl (may_flush_same s t by l.rest)
+    | No_number next is known l ↦ Same refl (may_flush_same s t (does_flush by s) l.rest)
+    | No_place live adding is known l ↦ Same refl (may_flush_same s t (does_flush by s) l.rest)
   ]
 
 -- ---- events that move it
 
 -- a core with one pin more
-abbrev pub with_new_pin : Holder → List PinnedFile → Core → Core
-with_new_pin holder files s = record s {
-  pins = s.pins ++ (record { number = s.greatest_pin + 1; batches = length s.accepted; files = files; holder = holder }) ∷ [];
+abbrev pub with_new_pin : Holder → ℕ → List PinnedFile → Core → Core
+with_new_pin holder manifest files s = record s {
+  pins = s.pins ++ (record { number = s.greatest_pin + 1; batches = length s.accepted; manifest = manifest; files = files; holder = holder }) ∷ [];
   greatest_pin = s.greatest_pin + 1;
 }
 
@@ -209,7 +206,7 @@ module _ (s t : State) where
   write_moves ops sync (Some result) h =
       let P : Result ℕ StoreError → Type 0 = λ r. Moves (core s) (core t) (where_ok ops (Some r)) in
       elim h [
-        | Done last is known d ↦ subst P (sym is) (Wrote ops refl (becomes_same d.1))
+        | Done last is known d ↦ subst P (sym is) (Wrote ops refl (becomes_same d.1.rest))
         | Failed is known f ↦ subst P (sym is) (Same refl (halts_same f))
         | Wanting is known w ↦ subst P (sym is) (Same refl (becomes_same w))
         | Refused e is known w ↦ subst P (sym is) (Same refl (stays_same s t w))
@@ -217,12 +214,12 @@ module _ (s t : State) where
 
   cut_moves : (by : FlushRule) (o : Option (Result Cut StoreError)) → Given o (λ result. pins.Cuts s by result t) → Moves (core s) (core t) []
   cut_moves by None h = absurd h
-  cut_moves by (Some result) h = flushing_same s t h (λ (cut : Cut) (c : pins.IsCut s by cut t). Pinned Caller c.files refl (becomes_same c.rest ∙ ap (with_new_pin Caller c.files) (cuts_at_same s c.at by c.flushed)))
+  cut_moves by (Some result) h = flushing_same s t h (λ (cut : Cut) (c : pins.IsCut s by cut t). Pinned Caller cut.manifest c.files refl (becomes_same c.rest ∙ ap (with_new_pin Caller cut.manifest c.files) (cuts_at_same s c.at (does_flush by s) c.flushed)))
 
   live_moves : (by : FlushRule) (o : Option (Result LiveFiles StoreError))
       → Given o (λ result. AnswersFlushing (halted s) by s (λ (live : LiveFiles). pins.AreLiveFiles s by live t) result t) → Moves (core s) (core t) []
   live_moves by None h = absurd h
-  live_moves by (Some result) h = flushing_same s t h (λ (live : LiveFiles) (l : pins.AreLiveFiles s by live t). Same refl (cuts_at_same s t by l.flushed))
+  live_moves by (Some result) h = flushing_same s t h (λ (live : LiveFiles) (l : pins.AreLiveFiles s by live t). Same refl (cuts_at_same s t (does_flush by s) l.flushed))
 
   unpin_moves : (pin : ℕ) (o : Option (Result (Unit {0}) StoreError)) → Given o (λ result. pins.Unpins s pin result t) → Moves (core s) (core t) []
   unpin_moves pin None h = absurd h
@@ -244,9 +241,9 @@ module _ (s t : State) where
   enable_moves (Some result) h =
       elim h [ Done x is known d ↦ Counted x refl (ap core d.1) | Failed is known f ↦ absurd f | Wanting is known w ↦ absurd w | Refused e is known w ↦ Same refl (stays_same s t w) ]
 
-  given_up_moves : (by : FlushRule) (result : Result JobStart StoreError) → checkpoints.GivesUp s by result t → Moves (core s) (core t) []
-  given_up_moves by result g =
-      let spent : core (checkpoints.with_pin_spent g.cut) ≡ core (checkpoints.with_pin_spent s) = ap (λ (m : Core). record m { greatest_pin = m.greatest_pin + 1 }) (may_flush_same s g.cut by g.before) in
+  given_up_moves : (dir : List ℕ) (by : FlushRule) (result : Result JobStart StoreError) → checkpoints.GivesUp s dir by result t → Moves (core s) (core t) []
+  given_up_moves dir by result g =
+      let spent : core (checkpoints.with_pin_spent g.cut) ≡ core (checkpoints.with_pin_spent s) = ap (λ (m : Core). record m { greatest_pin = m.greatest_pin + 1 }) (may_flush_same s g.cut (does_flush by s) g.before) in
       elim g.why [ inl f ↦ Spent refl (fails_same f.1 ∙ spent) | inr w ↦ Spent refl (becomes_same w.1 ∙ spent) ]
 
   checkpoint_begin_moves : (dir : List ℕ) (size : ℕ) (o : Option (Result JobStart StoreError)) → Given o (λ result. checkpoints.BeginsCheckpoint s dir size result t) → Moves (core s) (core t) []
@@ -256,15 +253,16 @@ module _ (s t : State) where
     | checkpoints.Failed is known f ↦ Same refl (reading_same f)
     | checkpoints.Exists is known taken b ↦ Same refl (becomes_same b)
     | checkpoints.Cut known free a ↦ flushing_same s t a (λ (start : JobStart) (c : checkpoints.IsBegun s dir (checkpoints.size_rule size) start t).
-        Pinned (Checkpoint dir (length c.files)) c.files refl (becomes_same c.rest ∙ ap (with_new_pin (Checkpoint dir (length c.files)) c.files) (cuts_at_same s c.at (checkpoints.size_rule size) c.flushed)))
-    | checkpoints.Given_up known free g ↦ given_up_moves (checkpoints.size_rule size) result g
+        Pinned (Checkpoint dir (length c.files)) c.manifest c.files refl
+        (becomes_same c.rest ∙ ap (with_new_pin (Checkpoint dir (length c.files)) c.manifest c.files) (cuts_at_same s c.at (does_flush (checkpoints.size_rule size) s) c.flushed)))
+    | checkpoints.Given_up known free g ↦ given_up_moves dir (checkpoints.size_rule size) result g
   ]
 
   checkpoint_step_moves : (pin : ℕ) (o : Option (Result Bool StoreError)) → Given o (λ result. checkpoints.StepsCheckpoint s pin result t) → Moves (core s) (core t) []
   checkpoint_step_moves pin None h = absurd h
   checkpoint_step_moves pin (Some result) h = elim h [
     | Done more is known d ↦ Progressed pin d.pin (Checkpoint d.dir d.now) refl d.job.found (ap built_by (sym d.job.holder)) (becomes_same d.rest)
-    | Failed is known f ↦ Same refl (fails_same f)
+    | Failed is known f ↦ Same refl (fails_same f.fails)
     | Wanting is known w ↦ Same refl (becomes_same w)
     | Refused e is known w ↦ Same refl (stays_same s t w)
   ]
@@ -297,7 +295,7 @@ moved s t event.WantsFreeze r h = given_same s t (Steps.to_wants_freeze r) h (λ
 moved s t event.Freeze r h = given_same s t (Steps.to_freeze r) h (freeze_same s t)
 moved s t event.FlushStep r h = given_same s t (Steps.to_flush_step r) h (flush_same s t)
 moved s t (event.CompactBegin which) r h = given_same s t (Steps.to_compact_begin r) h (compact_begin_same s t which)
-moved s t (event.CompactStep rows) r h = given_same s t (Steps.to_compact_step r) h (compact_step_same s t)
+moved s t (event.CompactStep rows) r h = given_same s t (Steps.to_compact_step r) h (compact_step_same s t rows)
 moved s t event.DeleteStep r h = given_same s t (Steps.to_delete_step r) h (delete_same s t)
 moved s t (event.Cut rule) r h = cut_moves s t rule (Steps.to_cut r) h
 moved s t (event.LiveFiles flush) r h = live_moves s t (pins.flush_rule flush) (Steps.to_live_files r) h

@@ -19,8 +19,8 @@ use Rattle.lsm_model.specs.Runs.{Core, core, Moves, Same, Wrote, Pinned, Spent, 
 use Rattle.lsm_model.specs.Crashes.{Crashed, Closes, Opened}
 use Rattle.lsm_model.specs.Counts.{IsCounted}
 use Rattle.lsm_model.specs.Counts as counts
-use Rattle.lsm_model.proofs.Cores.{moved, reading_same, halts_settling_same}
-use Rattle.lsm_model.proofs.DurableLemmas.{Keeps, reading, halts_settling, step_keeps, run_keeps}
+use Rattle.lsm_model.proofs.Cores.{moved, becomes_same, reading_same, halts_settling_same}
+use Rattle.lsm_model.proofs.DurableLemmas.{Keeps, becomes, reading, halts_settling, step_keeps, run_keeps}
 use Rattle.lsm_model.proofs.Histories.{run_more, run_accepted}
 use Rattle.lsm_model.proofs.RunLemmas.{run_at}
 use Rattle.lsm_model.proofs.CrashLemmas.{durable_stay}
@@ -79,9 +79,9 @@ module _ (a b : Core) (batches : List (List Op)) (within : AreWithin a) where
       numbers = within.numbers;
       fronts = All-weaker (HasFront (length a.accepted)) (HasFront (length (a.accepted ++ ops ∷ []))) (λ pin h. let longer = more ops in omega (arith, h, longer)) a.pins within.fronts;
     })
-    | Pinned holder files none is ↦ subst AreWithin (sym is) (record {
-      numbers = All-push (HasNumber (a.greatest_pin + 1)) a.pins (record { number = a.greatest_pin + 1; batches = length a.accepted; files = files; holder = holder }) (raised a.pins within.numbers) (omega arith);
-      fronts = All-push (HasFront (length a.accepted)) a.pins (record { number = a.greatest_pin + 1; batches = length a.accepted; files = files; holder = holder }) within.fronts (omega arith);
+    | Pinned holder manifest files none is ↦ subst AreWithin (sym is) (record {
+      numbers = All-push (HasNumber (a.greatest_pin + 1)) a.pins (record { number = a.greatest_pin + 1; batches = length a.accepted; manifest = manifest; files = files; holder = holder }) (raised a.pins within.numbers) (omega arith);
+      fronts = All-push (HasFront (length a.accepted)) a.pins (record { number = a.greatest_pin + 1; batches = length a.accepted; manifest = manifest; files = files; holder = holder }) within.fronts (omega arith);
     })
     | Spent none is ↦ subst AreWithin (sym is) (record { numbers = raised a.pins within.numbers; fronts = within.fronts })
     | Unpinned number none is ↦ subst AreWithin (sym is) (record {
@@ -145,7 +145,7 @@ closed_counted s t result closes counted = elim closes [
     | inr g ↦ same_counted s t (halts_settling_same g) (halts_settling g) counted
   ]
   | Wanting is known w ↦ absurd w
-  | Refused e is known same ↦ subst IsCounted (sym same) counted
+  | Refused e is known same ↦ same_counted s t (becomes_same same) (becomes same) counted
 ]
 
 -- ---- what is durable outlives a crash
@@ -154,8 +154,8 @@ written_all : (s t : State) (ops : List Op) (last : ℕ) → Step s (event.Write
 unfolding Step
 written_all s t ops last step = elim step [
   | Done other is known d ↦
-      let count : t.durable ≡ length s.accepted + 1 = ap (λ (q : State). q.durable) d.1.rest in
-      let long : length t.accepted ≡ length (s.accepted ++ ops ∷ []) = ap (λ (q : State). length q.accepted) d.1.rest in
+      let count : t.durable ≡ length s.accepted + 1 = ap (λ (q : State). q.durable) d.1.rest.rest in
+      let long : length t.accepted ≡ length (s.accepted ++ ops ∷ []) = ap (λ (q : State). length q.accepted) d.1.rest.rest in
       let more = length-append s.accepted (ops ∷ []) in
       omega (arith, count, long, more)
   | Failed is known f ↦ absurd (cc)

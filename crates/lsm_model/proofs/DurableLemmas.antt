@@ -2,11 +2,9 @@
 use Rattle.std.specs.Prelude.{◌≡◌, ℕ, ◌≤◌, Bool, true, false, List, [], ◌∷◌, length, Option, Some, None, Result}
 use Rattle.std.proofs.Common.{refl, ap, inl, inr, arith}
 use Rattle.std.proofs.lemmas.List.{length-append}
-use Rattle.lsm_disk.specs.declared.calls.DiskCall.{DiskCall}
 use Rattle.lsm_rows.specs.declared.operations.Op.{Op}
 use Rattle.lsm_model.specs.declared.errors.StoreError.{StoreError}
 use Rattle.lsm_model.specs.declared.cuts.FlushRule.{FlushRule}
-use Rattle.lsm_model.specs.declared.cuts.FlushRule.TheVariants as rule
 use Rattle.lsm_model.specs.declared.events.Event.{Event}
 use Rattle.lsm_model.specs.declared.events.Event.TheVariants as event
 use Rattle.lsm_model.specs.declared.events.Which.{Which}
@@ -22,8 +20,9 @@ use Rattle.lsm_model.specs.declared.replies.Deleted.TheVariants as delete
 use Rattle.lsm_model.specs.declared.replies.JobStart.{JobStart}
 use Rattle.lsm_model.specs.declared.replies.Shown.{Shown}
 use Rattle.lsm_model.specs.declared.states.State.{State}
-use Rattle.lsm_model.specs.Moves.{Becomes, Settles, Flushes, Halts, HaltsSettling, FailsToRead, Fails, FailsSettling}
-use Rattle.lsm_model.specs.Answers.{Answers, Done, Failed, Wanting, Refused, MayFlush, FailsFlushing, AnswersFlushing, Usual, No_number, No_place}
+use Rattle.lsm_model.specs.Halting.{Aimed}
+use Rattle.lsm_model.specs.Moves.{Becomes, Settles, Draws, Flushes, Halts, HaltsSettling, FailsToRead, Fails}
+use Rattle.lsm_model.specs.Answers.{Answers, Done, Failed, Wanting, Refused, MayFlush, does_flush, FailsFlushing, AnswersFlushing, Usual, No_number, No_place}
 use Rattle.lsm_model.specs.Steps as Steps
 use Rattle.lsm_model.specs.Steps.{Given, Step, Run}
 use Rattle.lsm_model.specs.Writes as writes
@@ -67,35 +66,32 @@ module _ {s t : State} where
   flushes : Flushes s t → Keeps s t
   flushes f = settles f.rest
 
-  halts : {calls : List DiskCall} → Halts calls s t → Keeps s t
+  halts : {calls : List Aimed} → Halts calls s t → Keeps s t
   halts h = becomes h.rest
 
-  draws : upkeep.Draws s t → Keeps s t
+  draws : {most : ℕ} → Draws most s t → Keeps s t
   draws d = settles d.rest
 
+  merges : {most : ℕ} → upkeep.Merges most s t → Keeps s t
+  merges d = settles d.rest
+
 module _ {s t : State} where
-  fails : {calls : List DiskCall} → Fails calls s t → Keeps s t
+  fails : {calls : List Aimed} → Fails calls s t → Keeps s t
   fails {calls = calls} f = elim f [ inl r ↦ reading r | inr h ↦ halts {calls = calls} h ]
 
-  pub halts_settling : {calls : List DiskCall} → HaltsSettling calls s t → Keeps s t
+  pub halts_settling : {calls : List Aimed} → HaltsSettling calls s t → Keeps s t
   halts_settling {calls = calls} h = keeps_trans s h.settled t (settles h.before) (halts {calls = calls} h.halts)
 
-module _ {s t : State} where
-  fails_settling : {calls : List DiskCall} → FailsSettling calls s t → Keeps s t
-  fails_settling {calls = calls} h = keeps_trans s h.settled t (settles h.before) (fails {calls = calls} h.fails)
+may_flush : (s t : State) (flushing : Bool) → MayFlush flushing s t → Keeps s t
+may_flush s t true m = flushes m
+may_flush s t false m = becomes m
 
-may_flush : (s t : State) (by : FlushRule) → MayFlush by s t → Keeps s t
-may_flush s t rule.Never m = becomes m
-may_flush s t rule.Always m = flushes m
-may_flush s t (rule.AtLeast n) m = flushes m
-
-cuts_at : (s t : State) (by : FlushRule) → pins.CutsAt by s t → Keeps s t
-cuts_at s t rule.Never m = becomes m
-cuts_at s t rule.Always m = flushes m.rest
-cuts_at s t (rule.AtLeast n) m = elim m [ inl b ↦ becomes b | inr f ↦ flushes f.rest ]
+cuts_at : (s t : State) (flushing : Bool) → pins.CutsAt flushing s t → Keeps s t
+cuts_at s t true m = flushes m.rest
+cuts_at s t false m = becomes m
 
 flushing_fails : (s t : State) (by : FlushRule) → FailsFlushing by s t → Keeps s t
-flushing_fails s t by f = keeps_trans s f.flushed t (may_flush s f.flushed by f.before) (fails f.fails)
+flushing_fails s t by f = keeps_trans s f.flushed t (flushes f.before) (halts f.halts)
 
 -- ---- answers
 
@@ -113,9 +109,9 @@ module _ (s t : State) where
   flushing : {A : Type 0} {known : Option StoreError} {by : FlushRule} {Does : A → Type 0} {result : Result A StoreError}
       → AnswersFlushing known by s Does result t → ((x : A) → Does x → Keeps s t) → Keeps s t
   flushing {by = by} a does = elim a [
-    | Usual b ↦ answers b does (flushing_fails s t by) (may_flush s t by) (keeps_same s t)
-    | No_number next is known l ↦ may_flush s t by l.rest
-    | No_place live adding is known l ↦ may_flush s t by l.rest
+    | Usual b ↦ answers b does (flushing_fails s t by) (may_flush s t (does_flush by s)) (keeps_same s t)
+    | No_number next is known l ↦ may_flush s t (does_flush by s) l.rest
+    | No_place live adding is known l ↦ may_flush s t (does_flush by s) l.rest
   ]
 
   never : ⊥ → Keeps s t
@@ -132,13 +128,16 @@ batch_more : (ops : List Op) (sync : Bool) (s : State) → Keeps s (writes.with_
 batch_more ops true s within = let long = length-append s.accepted (ops ∷ []) in (omega (arith, within), omega (arith, long))
 batch_more ops false s within = let long = length-append s.accepted (ops ∷ []) in (omega arith, omega (arith, long, within))
 
+logged : {s t : State} (ops : List Op) (sync : Bool) → writes.IsLogged ops sync s t → Keeps (writes.with_batch ops sync s) t
+logged {s = s} {t = t} ops sync d = keeps_as (writes.with_batch ops sync s) t (ap (λ (q : State). q.durable) d.rest.rest) (ap (λ (q : State). q.accepted) d.rest.rest)
+
 all_more : (s : State) → Keeps s (writes.all_durable s)
 all_more s within = (within, omega arith)
 
 module _ (s t : State) where
   writes_keep : (ops : List Op) (sync : Bool) (result : Result ℕ StoreError) → writes.Writes s ops sync result t → Keeps s t
   writes_keep ops sync result a =
-      answers s t a (λ x d. keeps_trans s (writes.with_batch ops sync s) t (batch_more ops sync s) (becomes d.1)) (λ f. halts f) becomes (keeps_same s t)
+      answers s t a (λ x d. keeps_trans s (writes.with_batch ops sync s) t (batch_more ops sync s) (logged ops sync d.1)) (λ f. halts f) becomes (keeps_same s t)
 
   sync_keeps : (result : Result (Unit {0}) StoreError) → writes.SyncsLog s result t → Keeps s t
   sync_keeps result a =
@@ -158,9 +157,9 @@ module _ (s t : State) where
 
   flush_keeps : (result : Result Flushed StoreError) → upkeep.StepsFlush s result t → Keeps s t
   flush_keeps result a = elim a [
-    | upkeep.Usual b ↦ answers s t b flushed (λ f. fails_settling f.1) draws (keeps_same s t)
-    | upkeep.No_number next is known some w ↦ draws w.rest
-    | upkeep.No_place live is known some is_live w ↦ draws w.rest
+    | upkeep.Usual b ↦ answers s t b flushed (λ f. halts_settling f.1) draws (keeps_same s t)
+    | upkeep.No_number next is known some w d ↦ draws d
+    | upkeep.No_place live adding is known some w d ↦ draws d
   ]
 
   began : (which : Which) (did : Begun) → upkeep.BeginsAs s which t did → Keeps s t
@@ -168,19 +167,19 @@ module _ (s t : State) where
   began which begun.Nothing d = keeps_same s t d.2
   began which begun.Started d = keeps_as s t (ap (λ (q : State). q.durable) d.2.rest) (ap (λ (q : State). q.accepted) d.2.rest)
 
-  merged : (did : Stepped) → upkeep.MergesAs s t did → Keeps s t
-  merged merge.NoJob d = keeps_same s t d.1
-  merged merge.More d = draws d.1
-  merged merge.Installed d = settles d.1.rest
+  merged : (rows : ℕ) (did : Stepped) → upkeep.MergesAs rows s t did → Keeps s t
+  merged rows merge.NoJob d = keeps_same s t d.1
+  merged rows merge.More d = merges d.1
+  merged rows merge.Installed d = keeps_trans s d.1.merged t (merges d.1.before) (settles d.1.rest)
 
-  merging_fails : upkeep.FailsMerging s t → Keeps s t
-  merging_fails f = elim f [ inl h ↦ halts_settling h | inr h ↦ fails_settling h ]
+  merging_fails : (rows : ℕ) → upkeep.FailsMerging rows s t → Keeps s t
+  merging_fails rows f = elim f [ inl h ↦ halts_settling h | inr h ↦ keeps_trans s h.merged t (merges h.before) (reading h.fails) ]
 
-  compact_keeps : (result : Result Stepped StoreError) → upkeep.StepsCompaction s result t → Keeps s t
-  compact_keeps result a = elim a [
-    | upkeep.Usual b ↦ answers s t b merged (λ f. merging_fails f.1) draws (keeps_same s t)
-    | upkeep.No_number next is known some w ↦ draws w.rest
-    | upkeep.No_place live adding is known some w ↦ draws w.rest
+  compact_keeps : (rows : ℕ) (result : Result Stepped StoreError) → upkeep.StepsCompaction s rows result t → Keeps s t
+  compact_keeps rows result a = elim a [
+    | upkeep.Usual b ↦ answers s t b (merged rows) (λ f. merging_fails rows f.1) merges (keeps_same s t)
+    | upkeep.No_number next is known some w d ↦ merges d
+    | upkeep.No_place live adding is known some w ↦ keeps_trans s w.merged t (merges w.before) (becomes w.rest)
   ]
 
   deleted : (did : Deleted) → upkeep.DeletesAs s t did → Keeps s t
@@ -197,8 +196,8 @@ module _ (s t : State) where
     | checkpoints.Refused e is known w ↦ keeps_same s t w
     | checkpoints.Failed is known f ↦ reading f
     | checkpoints.Exists is known taken b ↦ becomes b
-    | checkpoints.Cut known free c ↦ flushing s t c (λ start d. keeps_trans s d.at t (cuts_at s d.at (checkpoints.size_rule size) d.flushed) (becomes d.rest))
-    | checkpoints.Given_up known free g ↦ keeps_trans s g.cut t (may_flush s g.cut (checkpoints.size_rule size) g.before) (elim g.why [ inl f ↦ fails f.1 | inr w ↦ becomes w.1 ])
+    | checkpoints.Cut known free c ↦ flushing s t c (λ start d. keeps_trans s d.at t (cuts_at s d.at (does_flush (checkpoints.size_rule size) s) d.flushed) (becomes d.rest))
+    | checkpoints.Given_up known free g ↦ keeps_trans s g.cut t (may_flush s g.cut (does_flush (checkpoints.size_rule size) s) g.before) (elim g.why [ inl f ↦ fails f.1 | inr w ↦ becomes w.1 ])
   ]
 
   finish_keeps : (pin : ℕ) (result : Result ℕ StoreError) → checkpoints.FinishesCheckpoint s pin result t → Keeps s t
@@ -224,15 +223,15 @@ step_keeps s t event.WantsFreeze r h = given s t (Steps.to_wants_freeze r) h (λ
 step_keeps s t event.Freeze r h = given s t (Steps.to_freeze r) h (λ result a. answers s t a (froze s t (upkeep.can_freeze s)) (λ f. halts_settling f) becomes (keeps_same s t))
 step_keeps s t event.FlushStep r h = given s t (Steps.to_flush_step r) h (flush_keeps s t)
 step_keeps s t (event.CompactBegin which) r h = given s t (Steps.to_compact_begin r) h (λ result a. answers s t a (began s t which) (never s t) (keeps_same s t) (keeps_same s t))
-step_keeps s t (event.CompactStep rows) r h = given s t (Steps.to_compact_step r) h (compact_keeps s t)
+step_keeps s t (event.CompactStep rows) r h = given s t (Steps.to_compact_step r) h (compact_keeps s t rows)
 step_keeps s t event.DeleteStep r h = given s t (Steps.to_delete_step r) h (λ result a. answers s t a (deleted s t) (λ f. halts_settling f.1) (never s t) (keeps_same s t))
-step_keeps s t (event.Cut rule) r h = given s t (Steps.to_cut r) h (λ result a. flushing s t a (λ cut d. keeps_trans s d.at t (cuts_at s d.at rule d.flushed) (becomes d.rest)))
-step_keeps s t (event.LiveFiles flush) r h = given s t (Steps.to_live_files r) h (λ result a. flushing s t a (λ live d. cuts_at s t (pins.flush_rule flush) d.flushed))
+step_keeps s t (event.Cut rule) r h = given s t (Steps.to_cut r) h (λ result a. flushing s t a (λ cut d. keeps_trans s d.at t (cuts_at s d.at (does_flush rule s) d.flushed) (becomes d.rest)))
+step_keeps s t (event.LiveFiles flush) r h = given s t (Steps.to_live_files r) h (λ result a. flushing s t a (λ live d. cuts_at s t (does_flush (pins.flush_rule flush) s) d.flushed))
 step_keeps s t (event.Unpin pin) r h = given s t (Steps.to_unpin r) h (λ result a. answers s t a (λ x d. changes s t (pins.unpinned pin s) refl refl d) (never s t) (never s t) (keeps_same s t))
 step_keeps s t event.Disable r h = given s t (Steps.to_disable r) h (λ result a. answers s t a (λ count d. changes s t (record s { disables = count }) refl refl d.1) (never s t) (never s t) (keeps_same s t))
 step_keeps s t event.Enable r h = given s t (Steps.to_enable r) h (λ result a. answers s t a (λ count d. changes s t (record s { disables = count }) refl refl d.1) (never s t) (never s t) (keeps_same s t))
 step_keeps s t (event.CheckpointBegin dir size) r h = given s t (Steps.to_checkpoint_begin r) h (begin_keeps s t dir size)
-step_keeps s t (event.CheckpointStep pin) r h = given s t (Steps.to_checkpoint_step r) h (λ result a. answers s t a (λ more d. becomes d.rest) (λ f. fails f) becomes (keeps_same s t))
+step_keeps s t (event.CheckpointStep pin) r h = given s t (Steps.to_checkpoint_step r) h (λ result a. answers s t a (λ more d. becomes d.rest) (λ f. fails f.fails) becomes (keeps_same s t))
 step_keeps s t (event.CheckpointFinish pin) r h = given s t (Steps.to_checkpoint_finish r) h (finish_keeps s t pin)
 step_keeps s t (event.CheckpointStop pin) r h = given s t (Steps.to_checkpoint_stop r) h (λ result a. answers s t a (λ x d. changes s t (pins.unpinned pin s) refl refl d) (never s t) (never s t) (keeps_same s t))
 step_keeps s t (event.Show dir) r h = given s t (Steps.to_show r) h (show_keeps s t dir)

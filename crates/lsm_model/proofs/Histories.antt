@@ -32,7 +32,7 @@ module _ (a b : Core) (batches : List (List Op)) where
   moves_accepted m = elim m [
     | Same none is ↦ stays none (ap (λ (c : Core). c.accepted) is)
     | Wrote ops one is ↦ ap (λ (c : Core). c.accepted) is ∙ ap (λ (l : List (List Op)). a.accepted ++ l) (sym one)
-    | Pinned holder files none is ↦ stays none (ap (λ (c : Core). c.accepted) is)
+    | Pinned holder manifest files none is ↦ stays none (ap (λ (c : Core). c.accepted) is)
     | Spent none is ↦ stays none (ap (λ (c : Core). c.accepted) is)
     | Unpinned number none is ↦ stays none (ap (λ (c : Core). c.accepted) is)
     | Stepped number pin holder none found same is ↦ stays none (ap (λ (c : Core). c.accepted) is)
@@ -45,7 +45,7 @@ module _ (a b : Core) (batches : List (List Op)) where
   moves_base m = elim m [
     | Same none is ↦ (ap (λ (c : Core). c.own) is, ap (λ (c : Core). c.opening) is, ap (λ (c : Core). c.began) is)
     | Wrote ops one is ↦ (ap (λ (c : Core). c.own) is, ap (λ (c : Core). c.opening) is, ap (λ (c : Core). c.began) is)
-    | Pinned holder files none is ↦ (ap (λ (c : Core). c.own) is, ap (λ (c : Core). c.opening) is, ap (λ (c : Core). c.began) is)
+    | Pinned holder manifest files none is ↦ (ap (λ (c : Core). c.own) is, ap (λ (c : Core). c.opening) is, ap (λ (c : Core). c.began) is)
     | Spent none is ↦ (ap (λ (c : Core). c.own) is, ap (λ (c : Core). c.opening) is, ap (λ (c : Core). c.began) is)
     | Unpinned number none is ↦ (ap (λ (c : Core). c.own) is, ap (λ (c : Core). c.opening) is, ap (λ (c : Core). c.began) is)
     | Stepped number pin holder none found same is ↦ (ap (λ (c : Core). c.own) is, ap (λ (c : Core). c.opening) is, ap (λ (c : Core). c.began) is)
@@ -128,9 +128,9 @@ module _ (number batches : ℕ) (files : List PinnedFile) (built : Option (List 
       elim m [
         | Same none is ↦ subst P (sym is) held
         | Wrote ops one is ↦ subst P (sym is) (record { given = held.given; only = held.only })
-        | Pinned holder pinned none is ↦ subst P (sym is) (record {
+        | Pinned holder manifest pinned none is ↦ subst P (sym is) (record {
           given = omega (arith, held.given);
-          only = subst (HasOnly batches files built) (sym (found_before number a.pins (record { number = a.greatest_pin + 1; batches = length a.accepted; files = pinned; holder = holder }) (omega (arith, held.given)))) held.only;
+          only = subst (HasOnly batches files built) (sym (found_before number a.pins (record { number = a.greatest_pin + 1; batches = length a.accepted; manifest = manifest; files = pinned; holder = holder }) (omega (arith, held.given)))) held.only;
         })
         | Spent none is ↦ subst P (sym is) (record { given = omega (arith, held.given); only = held.only })
         | Unpinned other none is ↦ subst P (sym is) (record { given = held.given; only = unpinned other })
@@ -161,7 +161,7 @@ moves_folder a b added name folder m found =
     elim m [
       | Same none is ↦ subst P (sym is) found
       | Wrote ops one is ↦ subst P (sym is) found
-      | Pinned holder pinned none is ↦ subst P (sym is) found
+      | Pinned holder manifest pinned none is ↦ subst P (sym is) found
       | Spent none is ↦ subst P (sym is) found
       | Unpinned other none is ↦ subst P (sym is) found
       | Stepped at pin holder none here same is ↦ subst P (sym is) found

@@ -49,14 +49,14 @@ module _ (s t : State) (refusal : StoreError) where
   flush_known : (result : Result Flushed StoreError) → upkeep.StepsFlush s result t → halted s ≡ Some refusal → (refused (Some result) ≡ Some refusal) × (t ≡ s)
   flush_known result a is_known = elim a [
     | upkeep.Usual b ↦ answers_known b is_known
-    | upkeep.No_number next is known some w ↦ absurd (never_none is_known known)
-    | upkeep.No_place live is known some is_live w ↦ absurd (never_none is_known known)
+    | upkeep.No_number next is known some w d ↦ absurd (never_none is_known known)
+    | upkeep.No_place live adding is known some w d ↦ absurd (never_none is_known known)
   ]
 
-  compaction_known : (result : Result Stepped StoreError) → upkeep.StepsCompaction s result t → halted s ≡ Some refusal → (refused (Some result) ≡ Some refusal) × (t ≡ s)
-  compaction_known result a is_known = elim a [
+  compaction_known : (rows : ℕ) (result : Result Stepped StoreError) → upkeep.StepsCompaction s rows result t → halted s ≡ Some refusal → (refused (Some result) ≡ Some refusal) × (t ≡ s)
+  compaction_known rows result a is_known = elim a [
     | upkeep.Usual b ↦ answers_known b is_known
-    | upkeep.No_number next is known some w ↦ absurd (never_none is_known known)
+    | upkeep.No_number next is known some w d ↦ absurd (never_none is_known known)
     | upkeep.No_place live adding is known some w ↦ absurd (never_none is_known known)
   ]
 
@@ -116,7 +116,7 @@ known_refuses s t (event.Show dir) r refusal h known = absurd (none_some known)
 known_refuses s t event.Freeze r refusal h known = given_known s t event.Freeze refusal (Steps.to_freeze r) h (λ result a. answers_known s t refusal a known)
 known_refuses s t event.FlushStep r refusal h known = given_known s t event.FlushStep refusal (Steps.to_flush_step r) h (λ result a. flush_known s t refusal result a known)
 known_refuses s t (event.CompactBegin which) r refusal h known = given_known s t (event.CompactBegin which) refusal (Steps.to_compact_begin r) h (λ result a. answers_known s t refusal a known)
-known_refuses s t (event.CompactStep rows) r refusal h known = given_known s t (event.CompactStep rows) refusal (Steps.to_compact_step r) h (λ result a. compaction_known s t refusal result a known)
+known_refuses s t (event.CompactStep rows) r refusal h known = given_known s t (event.CompactStep rows) refusal (Steps.to_compact_step r) h (λ result a. compaction_known s t refusal rows result a known)
 known_refuses s t event.DeleteStep r refusal h known = given_known s t event.DeleteStep refusal (Steps.to_delete_step r) h (λ result a. answers_known s t refusal a known)
 known_refuses s t (event.Cut rule) r refusal h known = given_known s t (event.Cut rule) refusal (Steps.to_cut r) h (λ result a. flushing_known s t refusal a known)
 known_refuses s t (event.LiveFiles flush) r refusal h known = given_known s t (event.LiveFiles flush) refusal (Steps.to_live_files r) h (λ result a. flushing_known s t refusal a known)

@@ -1,22 +1,21 @@
-mod BatchLemmas
-mod CallLemmas
-mod CheckpointHistories
-mod Cores
-mod CountLemmas
-mod CrashLemmas
-mod DurableLemmas
-mod Entries
-mod Histories
-mod KnownLemmas
-mod LaneLemmas
-mod LookupLemmas
-mod OpeningLemmas
-mod PinHistories
-mod PinLemmas
-mod PlainLemmas
-mod PlainPins
-mod PlayLemmas
-mod RefusalLemmas
-mod StepLemmas
-mod RestoreLemmas
-mod RunLemmas
+pub mod CallLemmas
+pub mod CheckpointHistories
+pub mod Cores
+pub mod CountLemmas
+pub mod CrashLemmas
+pub mod DurableLemmas
+pub mod Histories
+pub mod KnownLemmas
+pub mod LaneLemmas
+pub mod LifeLemmas
+pub mod LookupLemmas
+pub mod OpeningLemmas
+pub mod PinHistories
+pub mod PinLemmas
+pub mod PlainLemmas
+pub mod PlainPins
+pub mod PlayLemmas
+pub mod RefusalLemmas
+pub mod StepLemmas
+pub mod RestoreLemmas
+pub mod RunLemmas

@@ -23,7 +23,7 @@ use Rattle.lsm_model.specs.declared.states.Holder.TheVariants.{Caller, Checkpoin
 use Rattle.lsm_model.specs.States.{shown_after, shown_at, last_of, pin_of, built_by}
 use Rattle.lsm_model.specs.Moves.{Becomes}
 use Rattle.lsm_model.specs.Causes.{files_of, file_in, same_name}
-use Rattle.lsm_model.specs.Answers.{Done, Failed, Wanting, Refused, AnswersFlushing, Usual, No_number, No_place}
+use Rattle.lsm_model.specs.Answers.{Done, Failed, Wanting, Refused, AnswersFlushing, Usual, No_number, No_place, does_flush}
 use Rattle.lsm_model.specs.Steps.{Step, Run}
 use Rattle.lsm_model.specs.Runs.{Core, core, shown_behind}
 use Rattle.lsm_model.specs.Counts.{IsCounted}
@@ -64,11 +64,11 @@ pub record GivesPin (m n : State) (number : ℕ) (built : Option (List ℕ)) (fi
   pub builds : built_by pin.holder ≡ built
   pub has : pin.files ≡ files
 
-gives_pin : (m at n : State) (holder : Holder) (files : List PinnedFile) (number : ℕ) → IsCounted m → core at ≡ core m → Becomes (pins.pinned holder files at) n
+gives_pin : (m at n : State) (holder : Holder) (manifest : ℕ) (files : List PinnedFile) (number : ℕ) → IsCounted m → core at ≡ core m → Becomes (pins.pinned holder manifest files at) n
     → number ≡ m.greatest_pin + 1 → GivesPin m n number (built_by holder) files
-gives_pin m at n holder files number counted same becomes is =
-    let new : Pin = record { number = m.greatest_pin + 1; batches = length m.accepted; files = files; holder = holder } in
-    let moved : core n ≡ with_new_pin holder files (core m) = becomes_same becomes ∙ ap (with_new_pin holder files) same in
+gives_pin m at n holder manifest files number counted same becomes is =
+    let new : Pin = record { number = m.greatest_pin + 1; batches = length m.accepted; manifest = manifest; files = files; holder = holder } in
+    let moved : core n ≡ with_new_pin holder manifest files (core m) = becomes_same becomes ∙ ap (with_new_pin holder manifest files) same in
     let all : n.pins ≡ m.pins ++ new ∷ [] = ap (λ (c : Core). c.pins) moved in
     let greatest : n.greatest_pin ≡ m.greatest_pin + 1 = ap (λ (c : Core). c.greatest_pin) moved in
     record {
@@ -81,7 +81,7 @@ gives_pin m at n holder files number counted same becomes is =
     }
 
 -- what an answer Ok did, where rows may be flushed before
-flushing_done : {A : Type 0} {known : Option StoreError} {by : FlushRule} {s t : State} {Does : A → Type 0} (x : A) → AnswersFlushing known by s Does (Ok x) t → Does x
+pub flushing_done : {A : Type 0} {known : Option StoreError} {by : FlushRule} {s t : State} {Does : A → Type 0} (x : A) → AnswersFlushing known by s Does (Ok x) t → Does x
 flushing_done {Does = Does} x a = elim a [
   | Usual b ↦ elim b [
     | Done y is known d ↦ let same : y ≡ x = cc in subst Does same d
@@ -97,7 +97,7 @@ cut_gives : (m n : State) (rule : FlushRule) (cut : Cut) → IsCounted m → Ste
 unfolding Step
 cut_gives m n rule cut counted step =
     let done : pins.IsCut m rule cut n = flushing_done cut step in
-    (done.files, gives_pin m done.at n Caller done.files cut.pin counted (cuts_at_same m done.at rule done.flushed) done.rest done.pin, done.sequence, done.lists)
+    (done.files, gives_pin m done.at n Caller cut.manifest done.files cut.pin counted (cuts_at_same m done.at (does_flush rule m) done.flushed) done.rest done.pin, done.sequence, done.lists)
 
 pub begin_gives : (m n : State) (dir : List ℕ) (size : ℕ) (start : JobStart) → IsCounted m → Step m (event.CheckpointBegin dir size) (reply.CheckpointBegin (Ok start)) n
     → (files : List PinnedFile) × GivesPin m n start.pin (Some dir) files × (start.sequence ≡ last_of m)
@@ -108,7 +108,7 @@ begin_gives m n dir size start counted step = elim step [
   | checkpoints.Exists is known taken b ↦ absurd (cc)
   | checkpoints.Cut known free a ↦
       let done : checkpoints.IsBegun m dir (checkpoints.size_rule size) start n = flushing_done start a in
-      (done.files, gives_pin m done.at n (Checkpoint dir (length done.files)) done.files start.pin counted (cuts_at_same m done.at (checkpoints.size_rule size) done.flushed) done.rest done.pin, done.sequence)
+      (done.files, gives_pin m done.at n (Checkpoint dir (length done.files)) done.manifest done.files start.pin counted (cuts_at_same m done.at (does_flush (checkpoints.size_rule size) m) done.flushed) done.rest done.pin, done.sequence)
   | checkpoints.Given_up known free g ↦ elim g.why [ inl f ↦ absurd (let no = f.0 in cc) | inr w ↦ absurd (let no = w.0 in cc) ]
 ]
 

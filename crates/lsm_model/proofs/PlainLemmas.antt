@@ -17,7 +17,6 @@ use Rattle.lsm_model.specs.declared.events.Which.TheVariants as which
 use Rattle.lsm_model.specs.declared.cuts.CutFile.{CutFile}
 use Rattle.lsm_model.specs.declared.cuts.LiveFiles.{LiveFiles}
 use Rattle.lsm_model.specs.declared.cuts.FlushRule.{FlushRule}
-use Rattle.lsm_model.specs.declared.cuts.FlushRule.TheVariants as rule
 use Rattle.lsm_model.specs.declared.replies.Flushed.TheVariants as flush
 use Rattle.lsm_model.specs.declared.replies.Begun.TheVariants as begun
 use Rattle.lsm_model.specs.declared.replies.Stepped.TheVariants as merge
@@ -32,7 +31,7 @@ use Rattle.lsm_model.specs.declared.lookups.PlainFolder.{PlainFolder}
 use Rattle.lsm_model.specs.States.{last_of, contents_now}
 use Rattle.lsm_model.specs.Moves.{Becomes, Settles, Flushes}
 use Rattle.lsm_model.specs.Causes.{last_sequence, number_end, disable_limit, pin_limit, pins_full, refused_if, first_of, sequence_full, halted}
-use Rattle.lsm_model.specs.Answers.{Done, Refused, Usual}
+use Rattle.lsm_model.specs.Answers.{Done, Refused, Usual, does_flush}
 use Rattle.lsm_model.specs.Writes.{Writes, SyncsLog, with_batch, all_durable}
 use Rattle.lsm_model.specs.Reads.{Gets, Scans}
 use Rattle.lsm_model.specs.Upkeep as upkeep
@@ -98,8 +97,8 @@ none_to p which.All = refl
 pub nothing_to_compact : (p : PlainLists) (which : Which) → upkeep.BeginsCompaction (state_of p) which (Ok begun.Nothing) (state_of p)
 nothing_to_compact p which = Done begun.Nothing refl refl (refl, none_to p which, refl)
 
-pub no_compaction : (p : PlainLists) → upkeep.StepsCompaction (state_of p) (Ok merge.NoJob) (state_of p)
-no_compaction p = upkeep.Usual (Done merge.NoJob refl refl (refl, refl))
+pub no_compaction : (p : PlainLists) (rows : ℕ) → upkeep.StepsCompaction (state_of p) rows (Ok merge.NoJob) (state_of p)
+no_compaction p rows = upkeep.Usual (Done merge.NoJob refl refl (refl, refl))
 
 pub settled : (p : PlainLists) → IsPlain p → Settles (state_of p) (state_of p)
 settled p is = record { rest = same_state (state_of p); durable = omega arith; within = is.durable }
@@ -114,15 +113,32 @@ pub none_frozen : (p : PlainLists) → p.frozen ≡ 0 → upkeep.StepsFlush (sta
 none_frozen p none = upkeep.Usual (Done flush.NoJob refl refl (none, refl))
 
 -- rows leave memory
-pub flushed : (p : PlainLists) (active frozen : ℕ) → IsPlain p → Flushes (state_of p) (state_of (record p { active = active; frozen = frozen }))
-flushed p active frozen is = record {
+pub flushed : (p : PlainLists) (active frozen active_len frozen_len : ℕ) → IsPlain p
+    → Flushes (state_of p) (state_of (record p { active = active; frozen = frozen; active_len = active_len; frozen_len = frozen_len }))
+flushed p active frozen active_len frozen_len is = record {
   rest = record { rest = record { rest = refl; faults = omega arith; refusals = omega arith }; durable = omega arith; within = is.durable };
   next = omega arith;
+  few = omega arith;
+  older = omega arith;
+  newer = omega arith;
+  idle = λ one two. (refl, refl);
 }
 
-pub all_flushed : (p : PlainLists) → IsPlain p → p.frozen ≢ 0 → upkeep.StepsFlush (state_of p) (Ok flush.Installed) (state_of (record p { frozen = 0 }))
+pub all_flushed : (p : PlainLists) → IsPlain p → p.frozen ≢ 0 → upkeep.StepsFlush (state_of p) (Ok flush.Installed) (state_of (record p { frozen = 0; frozen_len = 0 }))
 all_flushed p is some =
-    upkeep.Usual (Done flush.Installed refl refl (some, record { rest = flushed p p.active 0 is; active = refl; frozen = refl; tables = omega arith }))
+    upkeep.Usual (Done flush.Installed refl refl (
+      some,
+      record {
+        rest = flushed p p.active 0 p.active_len 0 is;
+        few = omega arith;
+        active = refl;
+        frozen = refl;
+        active_len = refl;
+        frozen_len = refl;
+        tables = omega arith;
+        newer = omega arith;
+      },
+    ))
 
 -- ---- freeze
 
@@ -156,7 +172,7 @@ no_number p some none full =
     refl
 
 pub froze : (p : PlainLists) → IsPlain p → p.active ≢ 0 → p.frozen ≡ 0 → p.next < number_end
-    → upkeep.Freezes (state_of p) (Ok true) (state_of (record p { active = 0; frozen = p.active; next = p.next + 1 }))
+    → upkeep.Freezes (state_of p) (Ok true) (state_of (record p { active = 0; frozen = p.active; active_len = 0; frozen_len = p.active_len; next = p.next + 1 }))
 froze p is some none less =
     Done true refl
     (log_test (state_of p) true (can p.active p.frozen some none) refl ∙ ap (λ (o : Option StoreError). first_of (o ∷ [])) (test_no _ (error.NumbersFull p.next) (le_no number_end p.next less)))
@@ -164,19 +180,22 @@ froze p is some none less =
 
 -- ---- live files
 
-no_logs : (files : List CutFile) (by : FlushRule) → files ≡ [] → FreeOfLogs by (map (λ (file : CutFile). file.name) files)
-no_logs files rule.Always none = subst (λ (l : List CutFile). All IsNoLog (map (λ (file : CutFile). file.name) l)) (sym none) (All-nil IsNoLog)
-no_logs files rule.Never none = tt
-no_logs files (rule.AtLeast n) none = tt
+no_logs : (files : List CutFile) (flushing : Bool) → files ≡ [] → FreeOfLogs flushing (map (λ (file : CutFile). file.name) files)
+no_logs files true none = subst (λ (l : List CutFile). All IsNoLog (map (λ (file : CutFile). file.name) l)) (sym none) (All-nil IsNoLog)
+no_logs files false none = tt
 
 pub no_live_files : (p : PlainLists) (live : LiveFiles) → IsPlain p → live.sequence ≡ p.sequence → live.manifest_len ≡ 0 → live.files ≡ [] → ListsFiles (state_of p) false (Ok live) (state_of p)
 no_live_files p live is sequence len none =
-    Usual (Done live refl refl (record { flushed = same_state (state_of p); sequence = sequence ∙ is.sequence; manifest_len = len; logs = no_logs live.files rule.Never none }))
+    Usual (Done live refl refl (record { flushed = same_state (state_of p); sequence = sequence ∙ is.sequence; manifest_len = len; logs = no_logs live.files false none }))
+
+-- all rows leave memory
+pub flushed_now : (p : PlainLists) → IsPlain p → IsFlushed (state_of p) (state_of (record p { active = 0; frozen = 0; active_len = 0; frozen_len = 0 }))
+flushed_now p is = record { rest = flushed p 0 0 0 0 is; active = refl; frozen = refl; active_len = refl; frozen_len = refl }
 
 pub live_flushed : (p : PlainLists) (live : LiveFiles) → IsPlain p → live.sequence ≡ p.sequence → live.manifest_len ≡ 0 → live.files ≡ []
-    → ListsFiles (state_of p) true (Ok live) (state_of (record p { active = 0; frozen = 0 }))
+    → ListsFiles (state_of p) true (Ok live) (state_of (record p { active = 0; frozen = 0; active_len = 0; frozen_len = 0 }))
 live_flushed p live is sequence len none =
-    Usual (Done live refl refl (record { flushed = record { rest = flushed p 0 0 is; active = refl; frozen = refl }; sequence = sequence ∙ is.sequence; manifest_len = len; logs = no_logs live.files rule.Always none }))
+    Usual (Done live refl refl (record { flushed = flushed_now p is; sequence = sequence ∙ is.sequence; manifest_len = len; logs = no_logs live.files true none }))
 
 -- ---- writes
 
@@ -201,23 +220,23 @@ folders_stay accepted ops (f ∷ folders) all =
     ∙ ap (λ (l : List FolderRead). plain_folder accepted f ∷ l) (folders_stay accepted ops folders (λ k d less. all (suc k) d (omega (arith, less))))
 
 -- the store with one batch more
-pub written_state : (p q : PlainLists) (ops : List Op) (sync : Bool) (n d : ℕ) → IsPlain p → q.accepted.items ≡ p.accepted.items ++ ops ∷ []
+pub written_state : (p q : PlainLists) (ops : List Op) (sync : Bool) (n d l : ℕ) → IsPlain p → q.accepted.items ≡ p.accepted.items ++ ops ∷ []
     → d ≡ cond sync (length p.accepted.items + 1) p.durable
-    → state_of (record p { accepted = q.accepted; sequence = n; durable = d; active = p.active + 1 }) ≡ with_batch ops sync (state_of p)
-written_state p q ops sync n d is more durable =
+    → state_of (record p { accepted = q.accepted; sequence = n; durable = d; active = p.active + 1; active_len = l }) ≡ record (with_batch ops sync (state_of p)) { active_len = l }
+written_state p q ops sync n d l is more durable =
     let folders : map (plain_folder q.accepted.items) p.folders.items ≡ map (plain_folder p.accepted.items) p.folders.items
     = ap (λ (l : List (List Op)). map (plain_folder l) p.folders.items) more ∙ folders_stay p.accepted.items ops p.folders.items is.folders in
-    λ i. record (with_batch ops sync (state_of p)) { accepted = more i; durable = durable i; folders = folders i }
+    λ i. record (with_batch ops sync (state_of p)) { accepted = more i; durable = durable i; folders = folders i; active_len = l }
 
-pub wrote : (p q : PlainLists) (ops : List Op) (sync : Bool) (n d : ℕ) → IsPlain p → q.accepted.items ≡ p.accepted.items ++ ops ∷ []
-    → d ≡ cond sync (length p.accepted.items + 1) p.durable → n ≡ p.sequence + length ops → n ≤ last_sequence
-    → Writes (state_of p) ops sync (Ok n) (state_of (record p { accepted = q.accepted; sequence = n; durable = d; active = p.active + 1 }))
-wrote p q ops sync n d is more durable sum fits =
+pub wrote : (p q : PlainLists) (ops : List Op) (sync : Bool) (n d l : ℕ) → IsPlain p → q.accepted.items ≡ p.accepted.items ++ ops ∷ []
+    → d ≡ cond sync (length p.accepted.items + 1) p.durable → n ≡ p.sequence + length ops → n ≤ last_sequence → p.active_len < l
+    → Writes (state_of p) ops sync (Ok n) (state_of (record p { accepted = q.accepted; sequence = n; durable = d; active = p.active + 1; active_len = l }))
+wrote p q ops sync n d l is more durable sum fits more_bytes =
     let known : first_of (halted (state_of p) ∷ sequence_full (length ops) (state_of p) ∷ []) ≡ None
     = ap (λ (o : Option StoreError). first_of (o ∷ [])) (test_no _ _ (lt_no last_sequence (last_of (state_of p) + length ops) (omega (arith, sum, fits, is.sequence)))) in
     let P : State → Type 0 = Writes (state_of p) ops sync (Ok n) in
-    subst P (sym (written_state p q ops sync n d is more durable))
-    (Done n refl known (sum ∙ ap (λ (m : ℕ). m + length ops) is.sequence, same_state (with_batch ops sync (state_of p))))
+    subst P (sym (written_state p q ops sync n d l is more durable))
+    (Done n refl known (sum ∙ ap (λ (m : ℕ). m + length ops) is.sequence, record { longer = more_bytes; rest = same_state (record (with_batch ops sync (state_of p)) { active_len = l }) }))
 
 pub sequence_is_full : (p : PlainLists) (ops : List Op) (sync : Bool) (count : ℕ) → IsPlain p → count ≡ length ops → last_sequence < p.sequence + count
     → Writes (state_of p) ops sync (Err (error.SequenceFull p.sequence count)) (state_of p)
@@ -229,9 +248,9 @@ sequence_is_full p ops sync count is len full =
     refl
 
 -- what is kept fits the batches still
-pub plain_written : (p q : PlainLists) (ops : List Op) (n d a : ℕ) → IsPlain p → q.accepted.items ≡ p.accepted.items ++ ops ∷ [] → d ≤ length p.accepted.items + 1
-    → n ≡ p.sequence + length ops → n ≤ last_sequence → IsPlain (record p { accepted = q.accepted; sequence = n; durable = d; active = a })
-plain_written p q ops n d a is more durable sum fits =
+pub plain_written : (p q : PlainLists) (ops : List Op) (n d a l : ℕ) → IsPlain p → q.accepted.items ≡ p.accepted.items ++ ops ∷ [] → d ≤ length p.accepted.items + 1
+    → n ≡ p.sequence + length ops → n ≤ last_sequence → IsPlain (record p { accepted = q.accepted; sequence = n; durable = d; active = a; active_len = l })
+plain_written p q ops n d a l is more durable sum fits =
     let more_by_one : length q.accepted.items ≡ length p.accepted.items + 1 = longer p.accepted.items q.accepted.items ops more in
     record {
       sequence = sum ∙ ap (λ (m : ℕ). m + length ops) is.sequence ∙ sym (sequence_of_two 0 p.accepted.items ops) ∙ ap (sequence_after 0) (sym more);
@@ -244,13 +263,13 @@ plain_written p q ops n d a is more durable sum fits =
 
 -- ---- cuts
 
-pub with_pin_more : (p q : PlainLists) (holder : Holder) (g : ℕ) → q.pins.items ≡ p.pins.items ++ (record { number = p.greatest_pin + 1; batches = length p.accepted.items; files = []; holder = holder }) ∷ []
-    → g ≡ p.greatest_pin + 1 → state_of (record p { pins = q.pins; greatest_pin = g }) ≡ pinned holder [] (state_of p)
+pub with_pin_more : (p q : PlainLists) (holder : Holder) (g : ℕ) → q.pins.items ≡ p.pins.items ++ (record { number = p.greatest_pin + 1; batches = length p.accepted.items; manifest = 0; files = []; holder = holder }) ∷ []
+    → g ≡ p.greatest_pin + 1 → state_of (record p { pins = q.pins; greatest_pin = g }) ≡ pinned holder 0 [] (state_of p)
 with_pin_more p q holder g more is = λ i. record (state_of p) { pins = more i; greatest_pin = is i }
 
-pub cut_now : (p : PlainLists) (t : State) (by : FlushRule) (cut : Cut) (at : State) → IsPlain p → length p.pins.items < pin_limit → CutsAt by (state_of p) at → t ≡ pinned Caller [] at
-    → cut.pin ≡ p.greatest_pin + 1 → cut.sequence ≡ p.sequence → cut.files ≡ [] → Cuts (state_of p) by (Ok cut) t
-cut_now p t by cut at is room flushes state number sequence none =
+pub cut_now : (p : PlainLists) (t : State) (by : FlushRule) (cut : Cut) (at : State) → IsPlain p → length p.pins.items < pin_limit → CutsAt (does_flush by (state_of p)) (state_of p) at → t ≡ pinned Caller 0 [] at
+    → cut.pin ≡ p.greatest_pin + 1 → cut.sequence ≡ p.sequence → cut.manifest ≡ 0 → cut.files ≡ [] → Cuts (state_of p) by (Ok cut) t
+cut_now p t by cut at is room flushes state number sequence manifest none =
     let known : first_of (halted (state_of p) ∷ pins_full (state_of p) ∷ []) ≡ None
     = ap (λ (o : Option StoreError). first_of (o ∷ [])) (test_no _ _ (le_no pin_limit (length p.pins.items) room)) in
     Usual (Done cut refl known (record {
@@ -260,13 +279,9 @@ cut_now p t by cut at is room flushes state number sequence none =
       pin = number;
       sequence = sequence ∙ is.sequence;
       lists = ap (map listed) none;
-      logs = no_logs cut.files by none;
-      rest = subst (λ (q : State). Becomes (pinned Caller [] at) q) (sym state) (same_state (pinned Caller [] at));
+      logs = no_logs cut.files (does_flush by (state_of p)) none;
+      rest = subst (λ (n : ℕ). Becomes (pinned Caller n [] at) t) (sym manifest) (subst (λ (q : State). Becomes (pinned Caller 0 [] at) q) (sym state) (same_state (pinned Caller 0 [] at)));
     }))
-
--- a cut that takes the rows out of memory
-pub flushed_now : (p : PlainLists) → IsPlain p → IsFlushed (state_of p) (state_of (record p { active = 0; frozen = 0 }))
-flushed_now p is = record { rest = flushed p 0 0 is; active = refl; frozen = refl }
 
 pub no_room : (p : PlainLists) (by : FlushRule) → length p.pins.items ≡ pin_limit → Cuts (state_of p) by (Err (error.PinsFull 64)) (state_of p)
 no_room p by full =
@@ -275,10 +290,10 @@ no_room p by full =
     refl)
 
 pub plain_pinned : (p q : PlainLists) (holder : Holder) (g : ℕ) → IsPlain p → length p.pins.items < pin_limit
-    → q.pins.items ≡ p.pins.items ++ (record { number = p.greatest_pin + 1; batches = length p.accepted.items; files = []; holder = holder }) ∷ []
+    → q.pins.items ≡ p.pins.items ++ (record { number = p.greatest_pin + 1; batches = length p.accepted.items; manifest = 0; files = []; holder = holder }) ∷ []
     → IsPlain (record p { pins = q.pins; greatest_pin = g })
 plain_pinned p q holder g is room more =
-    let new : Pin = record { number = p.greatest_pin + 1; batches = length p.accepted.items; files = []; holder = holder } in
+    let new : Pin = record { number = p.greatest_pin + 1; batches = length p.accepted.items; manifest = 0; files = []; holder = holder } in
     let len : length q.pins.items ≡ length p.pins.items + 1 = ap length more ∙ length-append p.pins.items (new ∷ []) in
     record {
       sequence = is.sequence;

@@ -1,6 +1,6 @@
 -- What a plain store's answers on pins, folders and checkpoints are steps of.
-use Rattle.std.specs.Prelude.{◌≡◌, ℕ, zero, suc, ◌+◌, ◌<◌, ◌≤◌, Bool, true, false, not, ◌==◌, ◌||◌, nat_lt, cond, List, [], ◌∷◌, ◌++◌, length, map, get_or, All, is_some, Option, Some, None, Result, Ok, Err, MatchResult}
-use Rattle.std.proofs.Common.{refl, sym, ap, subst, ◌∙◌, arith, inr}
+use Rattle.std.specs.Prelude.{◌≡◌, ℕ, zero, suc, ◌+◌, ◌<◌, ◌≤◌, Bool, true, false, not, ◌==◌, ◌||◌, nat_lt, nat_le, cond, List, [], ◌∷◌, ◌++◌, length, map, get_or, All, is_some, Option, Some, None, Result, Ok, Err, MatchResult}
+use Rattle.std.proofs.Common.{refl, sym, ap, subst, ◌∙◌, arith}
 use Rattle.std.specs.Str.{bytes_eq}
 use Rattle.std.proofs.lemmas.List.{map-append}
 use Rattle.std.proofs.lemmas.List.Elements.{All-nil, All-push}
@@ -21,7 +21,7 @@ use Rattle.lsm_model.specs.declared.plain.PlainLists.{PlainLists}
 use Rattle.lsm_model.specs.States.{shown_at, pin_of, with_pin, without_pin, built_by, folder_of}
 use Rattle.lsm_model.specs.Moves.{Becomes}
 use Rattle.lsm_model.specs.Causes.{pin_limit, pins_full, refused_if, first_of, is_none, is_own, is_job, builds, files_of, file_in, no_job, is_taken}
-use Rattle.lsm_model.specs.Answers.{Done, Wanting, Refused, Usual, MayFlush}
+use Rattle.lsm_model.specs.Answers.{Done, Wanting, Refused, Usual, MayFlush, does_flush}
 use Rattle.lsm_model.specs.Reads.{ShowsPin, ReadsPinned, shown_by_pin}
 use Rattle.lsm_model.specs.Pins.{Unpins, CutsAt, FreeOfLogs, pinned, unpinned}
 use Rattle.lsm_model.specs.Checkpoints as checkpoints
@@ -151,38 +151,50 @@ pub begin_exists : (p : PlainLists) (dir : List ℕ) (size : ℕ) → builds dir
     → BeginsCheckpoint (state_of p) dir size (Err (error.CheckpointExists dir)) (state_of p)
 begin_exists p dir size free room taken = checkpoints.Exists refl (begins p dir free room) taken (same_state (state_of p))
 
-may_stay : (p : PlainLists) (size : ℕ) → IsPlain p → MayFlush (size_rule size) (state_of p) (state_of p)
-may_stay p zero is = flushed p p.active p.frozen is
-may_stay p (suc n) is = flushed p p.active p.frozen is
+may_stay : (p : PlainLists) (flushing : Bool) → IsPlain p → MayFlush flushing (state_of p) (state_of p)
+may_stay p true is = flushed p p.active p.frozen p.active_len p.frozen_len is
+may_stay p false is = same_state (state_of p)
 
 pub begin_wanting : (p : PlainLists) (t : State) (dir : List ℕ) (size : ℕ) → IsPlain p → builds dir p.pins.items ≡ false → length p.pins.items < pin_limit → is_taken dir (state_of p) ≡ false
     → t ≡ state_of p → BeginsCheckpoint (state_of p) dir size (Err error.NoMemory) t
 begin_wanting p t dir size is free room taken state =
     subst (BeginsCheckpoint (state_of p) dir size (Err error.NoMemory)) (sym state)
-    (checkpoints.Cut (begins p dir free room) taken (Usual (Wanting refl refl (may_stay p size is))))
+    (checkpoints.Cut (begins p dir free room) taken (Usual (Wanting refl refl (may_stay p (does_flush (size_rule size) (state_of p)) is))))
 
-cuts_at : (p : PlainLists) (size : ℕ) → IsPlain p → CutsAt (size_rule size) (state_of p) (state_of (record p { active = 0; frozen = 0 }))
-cuts_at p zero is = flushed_now p is
-cuts_at p (suc n) is = inr (flushed_now p is)
+-- a checkpoint's size flushes where the logs reach it; they always reach 0
+pub size_flushes : (p : PlainLists) (size : ℕ) → does_flush (size_rule size) (state_of p) ≡ nat_le size (p.frozen_len + p.active_len)
+size_flushes p zero = sym (le_yes 0 (p.frozen_len + p.active_len) (omega arith))
+size_flushes p (suc n) = refl
 
-no_logs : (size : ℕ) → FreeOfLogs (size_rule size) []
-no_logs zero = All-nil _
-no_logs (suc n) = tt
+pub cuts_flushed : (p : PlainLists) (flushing : Bool) → IsPlain p → flushing ≡ true → CutsAt flushing (state_of p) (state_of (record p { active = 0; frozen = 0; active_len = 0; frozen_len = 0 }))
+cuts_flushed p flushing is all = subst (λ (b : Bool). CutsAt b (state_of p) (state_of (record p { active = 0; frozen = 0; active_len = 0; frozen_len = 0 }))) (sym all) (flushed_now p is)
 
-pub begun_now : (p : PlainLists) (t : State) (dir : List ℕ) (size : ℕ) (start : JobStart) → IsPlain p → builds dir p.pins.items ≡ false → length p.pins.items < pin_limit → is_taken dir (state_of p) ≡ false
-    → t ≡ pinned (Checkpoint dir 0) [] (state_of (record p { active = 0; frozen = 0 })) → start.pin ≡ p.greatest_pin + 1 → start.sequence ≡ p.sequence
+pub cuts_as_is : (p : PlainLists) (flushing : Bool) → flushing ≡ false → CutsAt flushing (state_of p) (state_of p)
+cuts_as_is p flushing none = subst (λ (b : Bool). CutsAt b (state_of p) (state_of p)) (sym none) (same_state (state_of p))
+
+-- a pin more doesn't change how long the logs are
+pub still_reaches : (p q : PlainLists) (holder : Holder) (bytes : ℕ) (test : Bool) → state_of q ≡ pinned holder 0 [] (state_of p) → test ≡ nat_le bytes (q.frozen_len + q.active_len)
+    → nat_le bytes (p.frozen_len + p.active_len) ≡ test
+still_reaches p q holder bytes test same is = sym (is ∙ ap (λ (s : State). nat_le bytes (s.frozen_len + s.active_len)) same)
+
+no_logs : (flushing : Bool) → FreeOfLogs flushing []
+no_logs true = All-nil _
+no_logs false = tt
+
+pub begun_now : (p : PlainLists) (t at : State) (dir : List ℕ) (size : ℕ) (start : JobStart) → IsPlain p → builds dir p.pins.items ≡ false → length p.pins.items < pin_limit → is_taken dir (state_of p) ≡ false
+    → CutsAt (does_flush (size_rule size) (state_of p)) (state_of p) at → t ≡ pinned (Checkpoint dir 0) 0 [] at → start.pin ≡ p.greatest_pin + 1 → start.sequence ≡ p.sequence
     → BeginsCheckpoint (state_of p) dir size (Ok start) t
-begun_now p t dir size start is free room taken state number sequence =
-    let at : State = state_of (record p { active = 0; frozen = 0 }) in
+begun_now p t at dir size start is free room taken flushes state number sequence =
     checkpoints.Cut (begins p dir free room) taken (Usual (Done start refl refl (record {
       at = at;
+      manifest = 0;
       files = [];
       free = taken;
-      flushed = cuts_at p size is;
+      flushed = flushes;
       pin = number;
       sequence = sequence ∙ is.sequence;
-      logs = no_logs size;
-      rest = subst (Becomes (pinned (Checkpoint dir 0) [] at)) (sym state) (same_state (pinned (Checkpoint dir 0) [] at));
+      logs = no_logs (does_flush (size_rule size) (state_of p));
+      rest = subst (Becomes (pinned (Checkpoint dir 0) 0 [] at)) (sym state) (same_state (pinned (Checkpoint dir 0) 0 [] at));
     })))
 
 -- ---- checkpoints go on

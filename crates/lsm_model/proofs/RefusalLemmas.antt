@@ -1,14 +1,12 @@
 -- Why each event's step is a refusal.
-use Rattle.std.specs.Prelude.{◌≡◌, ℕ, ◌≤◌, List, [], ◌∷◌, Option, Some, None, Result, Ok, Err}
+use Rattle.std.specs.Prelude.{◌≡◌, ℕ, ◌+◌, ◌≤◌, Bool, true, false, List, [], ◌∷◌, Option, Some, None, Result, Ok, Err}
 use Rattle.std.specs.Str.{bytes_eq}
 use Rattle.std.proofs.Common.{refl, sym, ap, subst, ◌∙◌, inl, inr, arith}
 use Rattle.lsm_io.specs.Causes.{Rose}
-use Rattle.lsm_disk.specs.declared.calls.DiskCall.{DiskCall}
 use Rattle.lsm_model.specs.declared.errors.StoreError.{StoreError}
 use Rattle.lsm_model.specs.declared.errors.StoreError.TheVariants as error
 use Rattle.lsm_model.specs.declared.states.State.{State}
 use Rattle.lsm_model.specs.declared.cuts.FlushRule.{FlushRule}
-use Rattle.lsm_model.specs.declared.cuts.FlushRule.TheVariants as rule
 use Rattle.lsm_model.specs.declared.events.Event.{Event}
 use Rattle.lsm_model.specs.declared.events.Event.TheVariants as event
 use Rattle.lsm_model.specs.declared.replies.Reply.{Reply}
@@ -17,11 +15,12 @@ use Rattle.lsm_model.specs.declared.replies.Stepped.{Stepped}
 use Rattle.lsm_model.specs.declared.replies.JobStart.{JobStart}
 use Rattle.lsm_model.specs.declared.replies.Shown.{Shown}
 use Rattle.lsm_model.specs.Causes.{first_of, halted, no_job}
-use Rattle.lsm_model.specs.Moves.{HaltsSettling, Fails, FailsSettling}
-use Rattle.lsm_model.specs.Answers.{Answers, Done, Failed, Wanting, Refused, MayFlush, FailsFlushing, AnswersFlushing, Usual, No_number, No_place}
+use Rattle.lsm_model.specs.Halting.{Aimed}
+use Rattle.lsm_model.specs.Moves.{HaltsSettling, Fails}
+use Rattle.lsm_model.specs.Answers.{Answers, Done, Failed, Wanting, Refused, MayFlush, does_flush, rule_draws, FailsFlushing, AnswersFlushing, Usual, No_number, No_place}
 use Rattle.lsm_model.specs.Steps as Steps
 use Rattle.lsm_model.specs.Steps.{Given, Step}
-use Rattle.lsm_model.specs.Refusals.{refused, refusal_in, HasCause, Known, Disk_failed, Memory_wanting, Numbers_full, Tables_full, Name_taken, Reads_so}
+use Rattle.lsm_model.specs.Refusals.{refused, refusal_in, most_draws, MayAdd, MayAddOne, HasCause, Known, Disk_failed, Memory_wanting, Numbers_full, Tables_full, Name_taken, Reads_so}
 use Rattle.lsm_model.specs.Reads as reads
 use Rattle.lsm_model.specs.Upkeep as upkeep
 use Rattle.lsm_model.specs.Checkpoints as checkpoints
@@ -33,23 +32,18 @@ rose_from a b c le rose = grind (arith, le, rose)
 -- ---- faults rose
 
 module _ {s t : State} where
-  fails_rose : {calls : List DiskCall} → Fails calls s t → Rose s.faults t.faults
+  fails_rose : {calls : List Aimed} → Fails calls s t → Rose s.faults t.faults
   fails_rose f = elim f [ inl r ↦ r.rose | inr h ↦ h.rose ]
 
-  settling_rose : {calls : List DiskCall} → HaltsSettling calls s t → Rose s.faults t.faults
+  settling_rose : {calls : List Aimed} → HaltsSettling calls s t → Rose s.faults t.faults
   settling_rose h = rose_from s.faults h.settled.faults t.faults h.before.rest.faults h.halts.rose
 
-module _ {s t : State} where
-  fails_settling_rose : {calls : List DiskCall} → FailsSettling calls s t → Rose s.faults t.faults
-  fails_settling_rose h = rose_from s.faults h.settled.faults t.faults h.before.rest.faults (fails_rose h.fails)
-
-flush_faults : (s t : State) (by : FlushRule) → MayFlush by s t → s.faults ≤ t.faults
-flush_faults s t rule.Never m = m.faults
-flush_faults s t rule.Always m = m.rest.rest.faults
-flush_faults s t (rule.AtLeast bytes) m = m.rest.rest.faults
+flush_faults : (s t : State) (flushes : Bool) → MayFlush flushes s t → s.faults ≤ t.faults
+flush_faults s t true m = m.rest.rest.faults
+flush_faults s t false m = m.faults
 
 flushing_rose : (s t : State) (by : FlushRule) → FailsFlushing by s t → Rose s.faults t.faults
-flushing_rose s t by f = rose_from s.faults f.flushed.faults t.faults (flush_faults s f.flushed by f.before) (fails_rose f.fails)
+flushing_rose s t by f = rose_from s.faults f.flushed.faults t.faults f.before.rest.rest.faults f.halts.rose
 
 -- ---- what refuses
 
@@ -77,12 +71,15 @@ module _ (s t : State) (e : Event) (refusal : StoreError) {A : Type 0} {result :
     | Refused other is known w ↦ knows (known ∙ ap (λ (x : StoreError). Some x) (sym (refusal_is refuses other is)))
   ]
 
+  -- the event draws what the rule draws, and adds what it adds
   flushing_cause : {known : Option StoreError} {by : FlushRule} {Does : A → Type 0} → AnswersFlushing known by s Does result t
-      → (known ≡ Some refusal → HasCause s e refusal t) → HasCause s e refusal t
-  flushing_cause {by = by} a knows = elim a [
+      → (known ≡ Some refusal → HasCause s e refusal t) → most_draws e s ≡ rule_draws by s
+      → ((live adding : ℕ) → MayAddOne by s live adding → MayAdd e s live adding) → HasCause s e refusal t
+  flushing_cause {by = by} a knows draws adds = elim a [
     | Usual b ↦ answers_cause b knows (flushing_rose s t by)
-    | No_number next is known l ↦ Numbers_full next (refusal_is refuses (error.NumbersFull next) is) l.full
-    | No_place live adding is known l ↦ Tables_full live adding (refusal_is refuses (error.TablesFull live adding) is) l.full
+    | No_number next is known l ↦ let less = l.drawn in Numbers_full next (refusal_is refuses (error.NumbersFull next) is) l.full (omega (arith, less, draws))
+    | No_place live adding is known l ↦
+        Tables_full live adding (refusal_is refuses (error.TablesFull live adding) is) l.full (adds live adding (l.older, l.added, l.adding_is))
   ]
 
 -- ---- each event
@@ -90,19 +87,25 @@ module _ (s t : State) (e : Event) (refusal : StoreError) {A : Type 0} {result :
 module _ (s t : State) (refusal : StoreError) where
   flush_cause : (result : Result Flushed StoreError) → upkeep.StepsFlush s result t → refused (Some result) ≡ Some refusal → HasCause s event.FlushStep refusal t
   flush_cause result a refuses = elim a [
-    | upkeep.Usual b ↦ answers_cause s t event.FlushStep refusal refuses b (λ k. Known k) (λ f. fails_settling_rose f.1)
-    | upkeep.No_number next is known some w ↦ Numbers_full next (refusal_is refuses (error.NumbersFull next) is) w.full
-    | upkeep.No_place live is known some is_live w ↦ Tables_full live 1 (refusal_is refuses (error.TablesFull live 1) is) w.full
+    | upkeep.Usual b ↦ answers_cause s t event.FlushStep refusal refuses b (λ k. Known k) (λ f. settling_rose f.1)
+    | upkeep.No_number next is known some w d ↦ Numbers_full next (refusal_is refuses (error.NumbersFull next) is) w.full w.drawn
+    | upkeep.No_place live adding is known some w d ↦
+        Tables_full live adding (refusal_is refuses (error.TablesFull live adding) is) w.full (w.live_is, w.adding_is)
   ]
 
-  merging_rose : upkeep.FailsMerging s t → Rose s.faults t.faults
-  merging_rose f = elim f [ inl h ↦ settling_rose h | inr h ↦ fails_settling_rose h ]
+  merging_rose : (rows : ℕ) → upkeep.FailsMerging rows s t → Rose s.faults t.faults
+  merging_rose rows f = elim f [ inl h ↦ settling_rose h | inr h ↦ rose_from s.faults h.merged.faults t.faults h.before.rest.rest.faults h.fails.rose ]
 
-  compaction_cause : (rows : ℕ) (result : Result Stepped StoreError) → upkeep.StepsCompaction s result t → refused (Some result) ≡ Some refusal → HasCause s (event.CompactStep rows) refusal t
+  -- the outputs are those that were begun before, and one for each number that the step drew
+  few_outputs : (rows live adding : ℕ) → upkeep.LacksRoom rows live adding s t → adding ≤ s.outputs + rows
+  few_outputs rows live adding l = omega (arith, l.outputs, l.before.each, l.before.few)
+
+  compaction_cause : (rows : ℕ) (result : Result Stepped StoreError) → upkeep.StepsCompaction s rows result t → refused (Some result) ≡ Some refusal → HasCause s (event.CompactStep rows) refusal t
   compaction_cause rows result a refuses = elim a [
-    | upkeep.Usual b ↦ answers_cause s t (event.CompactStep rows) refusal refuses b (λ k. Known k) (λ f. merging_rose f.1)
-    | upkeep.No_number next is known some w ↦ Numbers_full next (refusal_is refuses (error.NumbersFull next) is) w.full
-    | upkeep.No_place live adding is known some w ↦ Tables_full live adding (refusal_is refuses (error.TablesFull live adding) is) w.full
+    | upkeep.Usual b ↦ answers_cause s t (event.CompactStep rows) refusal refuses b (λ k. Known k) (λ f. merging_rose rows f.1)
+    | upkeep.No_number next is known some w d ↦ Numbers_full next (refusal_is refuses (error.NumbersFull next) is) w.full w.drawn
+    | upkeep.No_place live adding is known some w ↦
+        Tables_full live adding (refusal_is refuses (error.TablesFull live adding) is) w.full (w.stay, few_outputs rows live adding w)
   ]
 
   show_cause : (dir : List ℕ) (result : Result Shown StoreError) → reads.Shows s dir result t → refused (Some result) ≡ Some refusal → HasCause s (event.Show dir) refusal t
@@ -113,9 +116,9 @@ module _ (s t : State) (refusal : StoreError) where
     | reads.Wanting is b ↦ Memory_wanting (refusal_is refuses error.NoMemory is)
   ]
 
-  gives_up_cause : (dir : List ℕ) (size : ℕ) (by : FlushRule) (result : Result JobStart StoreError) → checkpoints.GivesUp s by result t → refused (Some result) ≡ Some refusal → HasCause s (event.CheckpointBegin dir size) refusal t
+  gives_up_cause : (dir : List ℕ) (size : ℕ) (by : FlushRule) (result : Result JobStart StoreError) → checkpoints.GivesUp s dir by result t → refused (Some result) ≡ Some refusal → HasCause s (event.CheckpointBegin dir size) refusal t
   gives_up_cause dir size by result g refuses = elim g.why [
-    | inl f ↦ Disk_failed (refusal_is refuses error.DiskFault f.0) (rose_from s.faults g.cut.faults t.faults (flush_faults s g.cut by g.before) (fails_rose f.1))
+    | inl f ↦ Disk_failed (refusal_is refuses error.DiskFault f.0) (rose_from s.faults g.cut.faults t.faults (flush_faults s g.cut (does_flush by s) g.before) (fails_rose f.1))
     | inr w ↦ Memory_wanting (refusal_is refuses error.NoMemory w.0)
   ]
 
@@ -124,7 +127,7 @@ module _ (s t : State) (refusal : StoreError) where
     | checkpoints.Refused other is known w ↦ Known (known ∙ ap (λ (x : StoreError). Some x) (sym (refusal_is refuses other is)))
     | checkpoints.Failed is known f ↦ Disk_failed (refusal_is refuses error.DiskFault is) f.rose
     | checkpoints.Exists is known taken b ↦ Name_taken dir (refusal_is refuses (error.CheckpointExists dir) is) taken
-    | checkpoints.Cut known free b ↦ flushing_cause s t (event.CheckpointBegin dir size) refusal refuses b (λ k. absurd (none_some k))
+    | checkpoints.Cut known free b ↦ flushing_cause s t (event.CheckpointBegin dir size) refusal refuses b (λ k. absurd (none_some k)) refl (λ live adding h. h)
     | checkpoints.Given_up known free g ↦ gives_up_cause dir size (checkpoints.size_rule size) result g refuses
   ]
 
@@ -168,13 +171,13 @@ has_cause s t event.FlushStep r refusal h refuses = given_cause s t event.FlushS
 has_cause s t (event.CompactBegin which) r refusal h refuses = given_cause s t (event.CompactBegin which) refusal (Steps.to_compact_begin r) h refuses (λ result a n. answers_cause s t (event.CompactBegin which) refusal n a (λ k. Known k) (λ f. absurd f))
 has_cause s t (event.CompactStep rows) r refusal h refuses = given_cause s t (event.CompactStep rows) refusal (Steps.to_compact_step r) h refuses (compaction_cause s t refusal rows)
 has_cause s t event.DeleteStep r refusal h refuses = given_cause s t event.DeleteStep refusal (Steps.to_delete_step r) h refuses (λ result a n. answers_cause s t event.DeleteStep refusal n a (λ k. Known k) (λ f. settling_rose f.1))
-has_cause s t (event.Cut rule) r refusal h refuses = given_cause s t (event.Cut rule) refusal (Steps.to_cut r) h refuses (λ result a n. flushing_cause s t (event.Cut rule) refusal n a (λ k. Known k))
-has_cause s t (event.LiveFiles flush) r refusal h refuses = given_cause s t (event.LiveFiles flush) refusal (Steps.to_live_files r) h refuses (λ result a n. flushing_cause s t (event.LiveFiles flush) refusal n a (λ k. Known k))
+has_cause s t (event.Cut rule) r refusal h refuses = given_cause s t (event.Cut rule) refusal (Steps.to_cut r) h refuses (λ result a n. flushing_cause s t (event.Cut rule) refusal n a (λ k. Known k) refl (λ live adding h. h))
+has_cause s t (event.LiveFiles flush) r refusal h refuses = given_cause s t (event.LiveFiles flush) refusal (Steps.to_live_files r) h refuses (λ result a n. flushing_cause s t (event.LiveFiles flush) refusal n a (λ k. Known k) refl (λ live adding h. h))
 has_cause s t (event.Unpin pin) r refusal h refuses = given_cause s t (event.Unpin pin) refusal (Steps.to_unpin r) h refuses (λ result a n. answers_cause s t (event.Unpin pin) refusal n a (λ k. Known k) (λ f. absurd f))
 has_cause s t event.Disable r refusal h refuses = given_cause s t event.Disable refusal (Steps.to_disable r) h refuses (λ result a n. answers_cause s t event.Disable refusal n a (λ k. Known k) (λ f. absurd f))
 has_cause s t event.Enable r refusal h refuses = given_cause s t event.Enable refusal (Steps.to_enable r) h refuses (λ result a n. answers_cause s t event.Enable refusal n a (λ k. Known k) (λ f. absurd f))
 has_cause s t (event.CheckpointBegin dir size) r refusal h refuses = given_cause s t (event.CheckpointBegin dir size) refusal (Steps.to_checkpoint_begin r) h refuses (begin_cause s t refusal dir size)
-has_cause s t (event.CheckpointStep pin) r refusal h refuses = given_cause s t (event.CheckpointStep pin) refusal (Steps.to_checkpoint_step r) h refuses (λ result a n. answers_cause s t (event.CheckpointStep pin) refusal n a (λ k. Known k) (λ f. fails_rose f))
+has_cause s t (event.CheckpointStep pin) r refusal h refuses = given_cause s t (event.CheckpointStep pin) refusal (Steps.to_checkpoint_step r) h refuses (λ result a n. answers_cause s t (event.CheckpointStep pin) refusal n a (λ k. Known k) (λ f. fails_rose f.fails))
 has_cause s t (event.CheckpointFinish pin) r refusal h refuses = given_cause s t (event.CheckpointFinish pin) refusal (Steps.to_checkpoint_finish r) h refuses (finish_cause s t refusal pin)
 has_cause s t (event.CheckpointStop pin) r refusal h refuses = given_cause s t (event.CheckpointStop pin) refusal (Steps.to_checkpoint_stop r) h refuses (λ result a n. answers_cause s t (event.CheckpointStop pin) refusal n a (λ k. Known k) (λ f. absurd f))
 has_cause s t (event.Show dir) r refusal h refuses = given_cause s t (event.Show dir) refusal (Steps.to_show r) h refuses (show_cause s t refusal dir)

@@ -1,13 +1,14 @@
 -- A restore's calls leave the batches and the pins.
 use Rattle.std.specs.Prelude.{◌≡◌, ◌⊎◌, ℕ, ◌≤◌, List, length, All, Result, Ok, Err}
-use Rattle.std.proofs.Common.{sym, ap, subst, ◌∙◌, inl, inr, arith}
+use Rattle.std.proofs.Common.{sym, ap, subst, inl, inr, arith}
 use Rattle.lsm_disk.specs.declared.calls.DiskCall.{DiskCall}
 use Rattle.lsm_disk.specs.declared.dest.DestError.{DestError}
 use Rattle.lsm_disk.specs.declared.dest.DestError.TheVariants as dest
 use Rattle.lsm_rows.specs.declared.operations.Op.{Op}
 use Rattle.lsm_model.specs.declared.states.State.{State}
 use Rattle.lsm_model.specs.declared.states.Pin.{Pin}
-use Rattle.lsm_model.specs.Moves.{Becomes, Fails}
+use Rattle.lsm_model.specs.Halting.{Aimed}
+use Rattle.lsm_model.specs.Moves.{Becomes, Halts}
 use Rattle.lsm_model.specs.Counts.{IsCounted}
 use Rattle.lsm_model.specs.Destination.{BeginsFolder, FillsFolder, FinishesFolder}
 
@@ -23,11 +24,8 @@ module _ {s t : State} where
   becomes b = (ap (λ (q : State). q.durable) b.rest, ap (λ (q : State). q.accepted) b.rest, ap (λ (q : State). q.pins) b.rest, ap (λ (q : State). q.greatest_pin) b.rest)
 
 module _ {s t : State} where
-  fails : {calls : List DiskCall} → Fails calls s t → Alike s t
-  fails f = elim f [ inl r ↦ becomes r.rest | inr h ↦ becomes h.rest ]
-
-alike_trans : (s m t : State) → Alike s m → Alike m t → Alike s t
-alike_trans s m t a b = (b.0 ∙ a.0, b.1 ∙ a.1, b.2 ∙ a.2, b.3 ∙ a.3)
+  halts : {calls : List Aimed} → Halts calls s t → Alike s t
+  halts h = becomes h.rest
 
 counted_alike : (s t : State) → Alike s t → IsCounted s → IsCounted t
 counted_alike s t a counted =
@@ -41,29 +39,29 @@ counted_alike s t a counted =
 
 begins : (s t : State) (dir : List ℕ) (result : Result (Unit {0}) DestError) → BeginsFolder s dir result t → Alike s t
 begins s t dir (Ok done) h = becomes h.2
-begins s t dir (Err dest.Fault) h = elim h.1 [ inl f ↦ fails f | inr f ↦ fails f.1 ]
+begins s t dir (Err dest.Fault) h = elim h.1 [ inl f ↦ halts f | inr f ↦ halts f.1 ]
 begins s t dir (Err (dest.Halted first)) h = same s t h.1
 begins s t dir (Err dest.Exists) h = becomes h.2
 begins s t dir (Err (dest.Changed call path)) h = absurd h
 begins s t dir (Err dest.NoMemory) h = becomes h.1
 
-fills : (s t : State) (calls : List DiskCall) (result : Result (Unit {0}) DestError) → FillsFolder calls s result t → Alike s t
-fills s t calls (Ok done) h = becomes h.1
-fills s t calls (Err dest.Fault) h = fails h.1
-fills s t calls (Err (dest.Halted first)) h = same s t h.1
-fills s t calls (Err dest.Exists) h = absurd h
-fills s t calls (Err (dest.Changed call path)) h = absurd h
-fills s t calls (Err dest.NoMemory) h = becomes h.1
+fills : (s t : State) (call : DiskCall) (result : Result (Unit {0}) DestError) → FillsFolder call s result t → Alike s t
+fills s t call (Ok done) h = becomes h.1
+fills s t call (Err dest.Fault) h = halts h.1
+fills s t call (Err (dest.Halted first)) h = same s t h.1
+fills s t call (Err dest.Exists) h = absurd h
+fills s t call (Err (dest.Changed at path)) h = absurd h
+fills s t call (Err dest.NoMemory) h = becomes h.1
 
 finishes : (s t : State) (result : Result (Unit {0}) DestError) → FinishesFolder s result t → Alike s t
 finishes s t (Ok done) h = becomes h.1.rest
-finishes s t (Err dest.Fault) h = alike_trans s h.1.now t (elim h.1.before [ inl is ↦ same s h.1.now is | inr p ↦ becomes p.rest ]) (fails h.1.fails)
+finishes s t (Err dest.Fault) h = elim h.1.halts [ inl f ↦ halts f | inr f ↦ halts f ]
 finishes s t (Err (dest.Halted first)) h = same s t h.1
 finishes s t (Err dest.Exists) h = absurd h
 finishes s t (Err (dest.Changed call path)) h = absurd h
 finishes s t (Err dest.NoMemory) h = becomes h.1
 
-pub restore_counted : (s t : State) (dir : List ℕ) (calls : List DiskCall) (result : Result (Unit {0}) DestError)
-    → BeginsFolder s dir result t ⊎ (FillsFolder calls s result t ⊎ FinishesFolder s result t) → IsCounted s → IsCounted t
-restore_counted s t dir calls result h counted =
-    counted_alike s t (elim h [ inl b ↦ begins s t dir result b | inr r ↦ elim r [ inl f ↦ fills s t calls result f | inr f ↦ finishes s t result f ] ]) counted
+pub restore_counted : (s t : State) (dir : List ℕ) (call : DiskCall) (result : Result (Unit {0}) DestError)
+    → BeginsFolder s dir result t ⊎ (FillsFolder call s result t ⊎ FinishesFolder s result t) → IsCounted s → IsCounted t
+restore_counted s t dir call result h counted =
+    counted_alike s t (elim h [ inl b ↦ begins s t dir result b | inr r ↦ elim r [ inl f ↦ fills s t call result f | inr f ↦ finishes s t result f ] ]) counted

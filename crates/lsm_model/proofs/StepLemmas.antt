@@ -60,7 +60,7 @@ module _ (s t : State) where
   unfolding Step
   step_compact_begin which r step = step
 
-  pub step_compact_step : (rows : ℕ) (r : Result Stepped StoreError) → StepsCompaction s r t → Step s (event.CompactStep rows) (reply.CompactStep r) t
+  pub step_compact_step : (rows : ℕ) (r : Result Stepped StoreError) → StepsCompaction s rows r t → Step s (event.CompactStep rows) (reply.CompactStep r) t
   unfolding Step
   step_compact_step rows r step = step
 

@@ -1,13 +1,12 @@
 -- How a call is answered, where its answers differ in nothing but what it does.
-use Rattle.std.specs.Prelude.{◌≡◌, ◌≢◌, ℕ, ◌+◌, ◌<◌, ◌≤◌, List, [], ◌∷◌, length, Option, Some, None, Result, Ok, Err}
-use Rattle.lsm_disk.specs.declared.calls.DiskCall.{DiskCall}
-use Rattle.lsm_disk.specs.declared.calls.DiskCall.TheVariants as call
+use Rattle.std.specs.Prelude.{◌≡◌, ℕ, ◌+◌, ◌<◌, ◌≤◌, Bool, true, false, nat_le, if◌then◌else◌, length, Option, Some, None, Result, Ok, Err}
 use Rattle.lsm_model.specs.declared.cuts.FlushRule.{FlushRule}
 use Rattle.lsm_model.specs.declared.cuts.FlushRule.TheVariants.{Never, Always, AtLeast}
 use Rattle.lsm_model.specs.declared.errors.StoreError.{StoreError}
 use Rattle.lsm_model.specs.declared.errors.StoreError.TheVariants.{DiskFault, NumbersFull, TablesFull, NoMemory}
 use Rattle.lsm_model.specs.declared.states.State.{State}
-use Rattle.lsm_model.specs.Moves.{Becomes, Flushes, Fails}
+use Rattle.lsm_model.specs.Halting.{flush_calls}
+use Rattle.lsm_model.specs.Moves.{Becomes, Flushes, Halts, flush_draws, flush_tables}
 use Rattle.lsm_model.specs.Causes.{table_limit, number_end}
 
 -- What the store knows refuses the call first, and changes nothing. Else the call is done, or the disk failed, or memory
@@ -20,40 +19,51 @@ pub data Answers {A : Type 0} (known : Option StoreError) (Does : A → Type 0) 
 
 -- ---- where rows are flushed on the way
 
--- the changing calls of a flush
-abbrev pub flush_calls : List DiskCall
-flush_calls = call.Create ∷ call.Append ∷ call.Sync ∷ call.SyncNames ∷ call.Rename ∷ []
+-- whether the rule has the rows in memory flushed: by `AtLeast` exactly where the live logs have so many bytes or more
+abbrev pub does_flush : FlushRule → State → Bool
+does_flush Never s = false
+does_flush Always s = true
+does_flush (AtLeast bytes) s = nat_le bytes (s.frozen_len + s.active_len)
 
--- what may have become of the state on the way
-abbrev pub MayFlush : FlushRule → State → State → Type 0
-MayFlush Never s t = Becomes s t
-MayFlush Always s t = Flushes s t
-MayFlush (AtLeast bytes) s t = Flushes s t
+-- what may have become of the state on the way, where rows are flushed or aren't
+abbrev pub MayFlush : Bool → State → State → Type 0
+MayFlush true s t = Flushes s t
+MayFlush false s t = Becomes s t
 
--- No number is left. It comes only where rows are to be flushed.
+-- how many numbers the rule draws at most, and how many tables it adds
+abbrev pub rule_draws : FlushRule → State → ℕ
+rule_draws rule s = if does_flush rule s then flush_draws s else 0
+
+abbrev pub rule_tables : FlushRule → State → ℕ
+rule_tables rule s = if does_flush rule s then flush_tables s else 0
+
+-- One more number was to be drawn for the rows in memory, and none was left.
 pub record LacksNumber (rule : FlushRule) (next : ℕ) (s t : State) : Type 0 where
-  pub flushes : rule ≢ Never
   pub is : next ≡ t.next
   pub full : number_end ≤ next
-  pub rest : MayFlush rule s t
+  pub drawn : next < s.next + rule_draws rule s
+  pub rest : MayFlush (does_flush rule s) s t
 
--- The flush would install one table too many. It comes only where rows are to be flushed.
+-- One more table was to be installed for the rows in memory, and it would be one too many.
 pub record LacksPlace (rule : FlushRule) (live adding : ℕ) (s t : State) : Type 0 where
-  pub flushes : rule ≢ Never
   pub live_is : live ≡ length t.tables
   pub adding_is : adding ≡ 1
   pub full : table_limit < live + adding
-  pub rest : MayFlush rule s t
+  pub older : length s.tables ≤ live
+  pub added : live < length s.tables + rule_tables rule s
+  pub rest : MayFlush (does_flush rule s) s t
 
--- the disk failed, in the flush or behind it
+-- A changing disk call failed in the flush, and halted the store. Where nothing is flushed no disk call is made.
 pub record FailsFlushing (rule : FlushRule) (s t : State) : Type 0 where
+  pub flushes : does_flush rule s ≡ true
   pub flushed : State
-  pub before : MayFlush rule s flushed
-  pub fails : Fails flush_calls flushed t
+  pub before : Flushes s flushed
+  pub halts : Halts flush_calls flushed t
 
 -- The same, where rows may be flushed by a rule before the call is done. A refusal on the way may leave them frozen, and a
 -- flush begun.
 pub data AnswersFlushing {A : Type 0} (known : Option StoreError) (rule : FlushRule) (s : State) (Does : A → Type 0) (result : Result A StoreError) (t : State) : Type 0 where
-  Usual : Answers known Does (FailsFlushing rule s t) (MayFlush rule s t) (t ≡ s) result → AnswersFlushing known rule s Does result t
+  Usual : Answers known Does (FailsFlushing rule s t) (MayFlush (does_flush rule s) s t) (t ≡ s) result
+      → AnswersFlushing known rule s Does result t
   No_number : (next : ℕ) → result ≡ Err (NumbersFull next) → known ≡ None → LacksNumber rule next s t → AnswersFlushing known rule s Does result t
   No_place : (live adding : ℕ) → result ≡ Err (TablesFull live adding) → known ≡ None → LacksPlace rule live adding s t → AnswersFlushing known rule s Does result t

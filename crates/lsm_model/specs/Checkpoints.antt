@@ -1,7 +1,5 @@
 -- Checkpoints: folders that are built of a cut's files.
 use Rattle.std.specs.Prelude.{◌≡◌, ◌⊎◌, ℕ, ◌+◌, ◌≤◌, Bool, true, false, nat_lt, zero, suc, List, [], ◌∷◌, ◌++◌, map, length, Option, Some, None, Result, Ok, Err}
-use Rattle.lsm_disk.specs.declared.calls.DiskCall.{DiskCall}
-use Rattle.lsm_disk.specs.declared.calls.DiskCall.TheVariants as call
 use Rattle.lsm_names.specs.declared.file_names.FileName.{FileName}
 use Rattle.lsm_model.specs.declared.cuts.FlushRule.{FlushRule}
 use Rattle.lsm_model.specs.declared.cuts.FlushRule.TheVariants.{Always, AtLeast}
@@ -14,9 +12,10 @@ use Rattle.lsm_model.specs.declared.states.PinnedFile.{PinnedFile}
 use Rattle.lsm_model.specs.declared.states.FolderRead.{FolderRead}
 use Rattle.lsm_model.specs.declared.states.Holder.TheVariants.{Checkpoint}
 use Rattle.lsm_model.specs.States.{last_of, shown_at, pin_of, with_pin}
+use Rattle.lsm_model.specs.Halting.{clear_calls, copy_calls, end_calls, name_calls}
 use Rattle.lsm_model.specs.Moves.{Becomes, FailsToRead, Halts, Fails}
 use Rattle.lsm_model.specs.Causes.{first_of, halted, pins_full, under_way, no_job, is_taken}
-use Rattle.lsm_model.specs.Answers.{Answers, AnswersFlushing, MayFlush}
+use Rattle.lsm_model.specs.Answers.{Answers, AnswersFlushing, MayFlush, does_flush}
 use Rattle.lsm_model.specs.Pins.{CutsAt, FreeOfLogs, pinned, unpinned}
 
 -- ---- begin
@@ -32,27 +31,25 @@ size_rule (suc n) = AtLeast (suc n)
 -- The checkpoint's own pin has all accepted batches, and each of its files is still to be linked or copied.
 pub record IsBegun (s : State) (dir : List ℕ) (rule : FlushRule) (start : JobStart) (t : State) : Type 0 where
   pub at : State
+  pub manifest : ℕ
   pub files : List PinnedFile
   pub free : is_taken dir s ≡ false
-  pub flushed : CutsAt rule s at
+  pub flushed : CutsAt (does_flush rule s) s at
   pub pin : start.pin ≡ s.greatest_pin + 1
   pub sequence : start.sequence ≡ last_of s
-  pub logs : FreeOfLogs rule (names_of files)
-  pub rest : Becomes (pinned (Checkpoint dir (length files)) files at) t
-
--- the changing calls of clearing and making the folder in which the checkpoint is built
-abbrev pub begin_calls : List DiskCall
-begin_calls = call.Unlink ∷ call.RemoveFolder ∷ call.MakeFolder ∷ []
+  pub logs : FreeOfLogs (does_flush rule s) (names_of files)
+  pub rest : Becomes (pinned (Checkpoint dir (length files)) manifest files at) t
 
 -- the pin was given and is given up again; its number doesn't come back
 abbrev pub with_pin_spent : State → State
 with_pin_spent s = record s { greatest_pin = s.greatest_pin + 1 }
 
--- after the cut the disk failed, or memory was wanting
-pub record GivesUp (s : State) (rule : FlushRule) (result : Result JobStart StoreError) (t : State) : Type 0 where
+-- after the cut the disk failed where the folder of the checkpoint was cleared and made, or memory was wanting
+pub record GivesUp (s : State) (dir : List ℕ) (rule : FlushRule) (result : Result JobStart StoreError) (t : State) : Type 0 where
   pub cut : State
-  pub before : MayFlush rule s cut
-  pub why : ((result ≡ Err DiskFault) × Fails begin_calls (with_pin_spent cut) t) ⊎ ((result ≡ Err NoMemory) × Becomes (with_pin_spent cut) t)
+  pub before : MayFlush (does_flush rule s) s cut
+  pub why : ((result ≡ Err DiskFault) × Fails (clear_calls dir) (with_pin_spent cut) t)
+      ⊎ ((result ≡ Err NoMemory) × Becomes (with_pin_spent cut) t)
 
 -- what refuses a checkpoint before the disk is asked for the name
 abbrev pub begin_refusal : State → List ℕ → Option StoreError
@@ -65,7 +62,8 @@ pub data BeginsCheckpoint (s : State) (dir : List ℕ) (size : ℕ) (result : Re
   Exists : result ≡ Err (CheckpointExists dir) → begin_refusal s dir ≡ None → is_taken dir s ≡ true → Becomes s t → BeginsCheckpoint s dir size result t
   Cut : begin_refusal s dir ≡ None → is_taken dir s ≡ false → AnswersFlushing None (size_rule size) s (λ (start : JobStart). IsBegun s dir (size_rule size) start t) result t
       → BeginsCheckpoint s dir size result t
-  Given_up : begin_refusal s dir ≡ None → is_taken dir s ≡ false → GivesUp s (size_rule size) result t → BeginsCheckpoint s dir size result t
+  Given_up : begin_refusal s dir ≡ None → is_taken dir s ≡ false → GivesUp s dir (size_rule size) result t
+      → BeginsCheckpoint s dir size result t
 
 -- ---- steps
 
@@ -86,14 +84,19 @@ pub record IsStepped (s : State) (number : ℕ) (more : Bool) (t : State) : Type
   pub answer : more ≡ nat_lt 0 now
   pub rest : Becomes (record s { pins = with_pin (record pin { holder = Checkpoint dir now }) s.pins }) t
 
-abbrev pub step_calls : List DiskCall
-step_calls = call.Link ∷ call.Create ∷ call.Append ∷ []
+-- the disk failed where a file was linked or copied
+pub record FailsCopying (s : State) (number : ℕ) (t : State) : Type 0 where
+  pub pin : Pin
+  pub dir : List ℕ
+  pub left : ℕ
+  pub job : IsJob s number pin dir left
+  pub fails : Fails (copy_calls dir) s t
 
 -- true exactly where a file is left
 abbrev pub StepsCheckpoint : State → ℕ → Result Bool StoreError → State → Type 0
 StepsCheckpoint s pin result t =
     Answers (first_of (no_job pin s ∷ halted s ∷ [])) (λ (more : Bool). IsStepped s pin more t)
-    (Fails step_calls s t) (Becomes s t) (t ≡ s) result
+    (FailsCopying s pin t) (Becomes s t) (t ≡ s) result
 
 -- ---- finish and stop
 
@@ -115,17 +118,14 @@ pub record IsFinished (s : State) (number sequence : ℕ) (t : State) : Type 0 w
   pub sequence_is : sequence ≡ (shown_at s pin.batches).sequence
   pub rest : Becomes (published s pin dir true) t
 
-abbrev pub finish_calls : List DiskCall
-finish_calls = call.Link ∷ call.Create ∷ call.Append ∷ call.Sync ∷ call.SyncNames ∷ call.Rename ∷ []
-
 -- the pin has ended; the folder is whole or not there, and where it is there, a crash may take it away
 pub record FailsFinishing (s : State) (number : ℕ) (t : State) : Type 0 where
   pub pin : Pin
   pub dir : List ℕ
   pub left : ℕ
   pub job : IsJob s number pin dir left
-  pub fails : Fails finish_calls (unpinned number s) t
-      ⊎ ((is_taken dir s ≡ false) × Halts (call.Rename ∷ call.SyncNames ∷ []) (published s pin dir false) t)
+  pub fails : Fails (end_calls dir) (unpinned number s) t
+      ⊎ ((is_taken dir s ≡ false) × Halts (name_calls dir) (published s pin dir false) t)
 
 -- the name of the job's folder is taken
 pub record IsTakenMeanwhile (s : State) (number : ℕ) (dir : List ℕ) (t : State) : Type 0 where

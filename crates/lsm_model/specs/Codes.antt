@@ -6,10 +6,13 @@ use base.Stored.{coded_unit}
 use Rattle.lsm_disk.specs.declared.calls.DiskCall.{DiskCall}
 use Rattle.lsm_disk.specs.declared.calls.DiskCall.TheVariants as call
 use Rattle.lsm_disk.specs.declared.calls.Halt.{Halt}
+use Rattle.lsm_disk.specs.CallCodes.{coded_call, coded_halt}
 use Rattle.lsm_names.specs.declared.file_names.FileName.{FileName}
-use Rattle.lsm_names.specs.declared.file_names.FileName.TheVariants.{Log, Table, Manifest, Temp, Current}
+use Rattle.lsm_names.specs.declared.file_names.FileName.TheVariants.{Current}
+use Rattle.lsm_names.specs.Codes.{coded_name}
 use Rattle.lsm_rows.specs.declared.operations.Op.{Op}
 use Rattle.lsm_rows.specs.declared.operations.Op.TheVariants.{Put, Delete}
+use Rattle.lsm_rows.specs.Pairs.{coded_bytes, coded_contents}
 use Rattle.lsm_rows.specs.Replay.{Contents}
 use Rattle.lsm_version.specs.declared.tables.Place.{Place}
 use Rattle.lsm_model.specs.declared.errors.StoreError.{StoreError}
@@ -22,80 +25,12 @@ use Rattle.lsm_model.specs.declared.states.Holder.{Holder}
 use Rattle.lsm_model.specs.declared.states.Holder.TheVariants.{Caller, Checkpoint}
 use Rattle.lsm_model.specs.declared.states.FolderRead.{FolderRead}
 use Rattle.lsm_model.specs.declared.states.LiveTable.{LiveTable}
-use Rattle.lsm_model.specs.Pairs.{coded_bytes, coded_contents}
 
 -- the thing at a place of a list, or the last one
 abbrev pub thing_at : {A : Type 0} → A → List A → ℕ → A
 thing_at last [] n = last
 thing_at last (x ∷ xs) zero = x
 thing_at last (x ∷ xs) (suc n) = thing_at last xs n
-
--- ---- names of files
-
-abbrev pub name_to : FileName → (ℕ ⊎ ℕ) ⊎ ((ℕ ⊎ ℕ) ⊎ Unit {0})
-name_to (Log n) = inl (inl n)
-name_to (Table n) = inl (inr n)
-name_to (Manifest n) = inr (inl (inl n))
-name_to (Temp n) = inr (inl (inr n))
-name_to Current = inr (inr tt)
-
-abbrev pub name_from : (ℕ ⊎ ℕ) ⊎ ((ℕ ⊎ ℕ) ⊎ Unit {0}) → FileName
-name_from (inl (inl n)) = Log n
-name_from (inl (inr n)) = Table n
-name_from (inr (inl (inl n))) = Manifest n
-name_from (inr (inl (inr n))) = Temp n
-name_from (inr (inr _)) = Current
-
-pub name_again : (name : FileName) → name_from (name_to name) ≡ name
-name_again (Log n) = refl
-name_again (Table n) = refl
-name_again (Manifest n) = refl
-name_again (Temp n) = refl
-name_again Current = refl
-
-abbrev pub coded_name : Coded FileName
-coded_name = code_by ((ℕ ⊎ ℕ) ⊎ ((ℕ ⊎ ℕ) ⊎ Unit {0})) (coded⊎ (coded⊎ coded_ℕ coded_ℕ) (coded⊎ (coded⊎ coded_ℕ coded_ℕ) coded_unit)) name_to name_from name_again
-
--- ---- calls of a disk
-
-abbrev pub call_to : DiskCall → ℕ
-call_to call.Kind = 0
-call_to call.List = 1
-call_to call.Size = 2
-call_to call.Open = 3
-call_to call.Create = 4
-call_to call.Append = 5
-call_to call.Sync = 6
-call_to call.Link = 7
-call_to call.Rename = 8
-call_to call.Unlink = 9
-call_to call.MakeFolder = 10
-call_to call.RemoveFolder = 11
-call_to call.SyncNames = 12
-
-abbrev pub call_from : ℕ → DiskCall
-call_from n = thing_at call.SyncNames (call.Kind ∷ call.List ∷ call.Size ∷ call.Open ∷ call.Create ∷ call.Append ∷ call.Sync ∷ call.Link ∷ call.Rename ∷ call.Unlink ∷ call.MakeFolder ∷ call.RemoveFolder ∷ []) n
-
-pub call_again : (c : DiskCall) → call_from (call_to c) ≡ c
-call_again call.Kind = refl
-call_again call.List = refl
-call_again call.Size = refl
-call_again call.Open = refl
-call_again call.Create = refl
-call_again call.Append = refl
-call_again call.Sync = refl
-call_again call.Link = refl
-call_again call.Rename = refl
-call_again call.Unlink = refl
-call_again call.MakeFolder = refl
-call_again call.RemoveFolder = refl
-call_again call.SyncNames = refl
-
-abbrev pub coded_call : Coded DiskCall
-coded_call = code_by ℕ coded_ℕ call_to call_from call_again
-
-abbrev pub coded_halt : Coded Halt
-coded_halt = code_by (DiskCall × List ℕ) (coded× coded_call coded_bytes) (λ h. (h.call, h.path)) (λ p. record { call = p.0; path = p.1 }) (λ _. refl)
 
 -- ---- refusals: which of them it is, and what any of them carries
 
@@ -217,8 +152,9 @@ coded_pinned = code_by (FileName × List ℕ) (coded× coded_name coded_bytes) (
 
 abbrev pub coded_pin : Coded Pin
 coded_pin =
-    code_by (ℕ × (ℕ × (List PinnedFile × Holder))) (coded× coded_ℕ (coded× coded_ℕ (coded× (coded_list coded_pinned) coded_holder)))
-    (λ p. (p.number, (p.batches, (p.files, p.holder)))) (λ p. record { number = p.0; batches = p.1.0; files = p.1.1.0; holder = p.1.1.1 }) (λ _. refl)
+    code_by (ℕ × (ℕ × (ℕ × (List PinnedFile × Holder)))) (coded× coded_ℕ (coded× coded_ℕ (coded× coded_ℕ (coded× (coded_list coded_pinned) coded_holder))))
+    (λ p. (p.number, (p.batches, (p.manifest, (p.files, p.holder)))))
+    (λ p. record { number = p.0; batches = p.1.0; manifest = p.1.1.0; files = p.1.1.1.0; holder = p.1.1.1.1 }) (λ _. refl)
 
 abbrev pub coded_shown : Coded Shown
 coded_shown = code_by (ℕ × Contents) (coded× coded_ℕ coded_contents) (λ s. (s.sequence, s.contents)) (λ p. record { sequence = p.0; contents = p.1 }) (λ _. refl)
@@ -244,9 +180,9 @@ Written = List ℕ × (Contents × (ℕ × (List (List Op) × (ℕ × Option (Li
 abbrev pub Held : Type 0
 Held = List Pin × (ℕ × (List FolderRead × (Option (List ℕ) × ℕ)))
 
--- the rows in memory and the tables
+-- the rows in memory with their logs, and the tables
 abbrev pub Rows : Type 0
-Rows = ℕ × (ℕ × (List LiveTable × (Option (List Place) × (ℕ × ℕ))))
+Rows = (ℕ × ℕ) × ((ℕ × ℕ) × (List LiveTable × (Option (List Place) × (ℕ × (ℕ × ℕ)))))
 
 -- what became of the disk
 abbrev pub OfDisk : Type 0
@@ -261,7 +197,7 @@ parts_of s = (
   (
     (s.pins, (s.greatest_pin, (s.folders, (s.begun, s.disables)))),
     (
-      (s.active, (s.frozen, (s.tables, (s.merging, (s.next, s.manifest_len))))),
+      ((s.active, s.active_len), ((s.frozen, s.frozen_len), (s.tables, (s.merging, (s.outputs, (s.next, s.manifest_len)))))),
       (s.halt, (s.faults, s.refusals)),
     ),
   ),
@@ -280,12 +216,15 @@ state_from p = record {
   folders = p.1.0.1.1.0;
   begun = p.1.0.1.1.1.0;
   disables = p.1.0.1.1.1.1;
-  active = p.1.1.0.0;
-  frozen = p.1.1.0.1.0;
+  active = p.1.1.0.0.0;
+  active_len = p.1.1.0.0.1;
+  frozen = p.1.1.0.1.0.0;
+  frozen_len = p.1.1.0.1.0.1;
   tables = p.1.1.0.1.1.0;
   merging = p.1.1.0.1.1.1.0;
-  next = p.1.1.0.1.1.1.1.0;
-  manifest_len = p.1.1.0.1.1.1.1.1;
+  outputs = p.1.1.0.1.1.1.1.0;
+  next = p.1.1.0.1.1.1.1.1.0;
+  manifest_len = p.1.1.0.1.1.1.1.1.1;
   halt = p.1.1.1.0;
   faults = p.1.1.1.1.0;
   refusals = p.1.1.1.1.1;
@@ -298,7 +237,7 @@ abbrev pub coded_held : Coded Held
 coded_held = coded× (coded_list coded_pin) (coded× coded_ℕ (coded× (coded_list coded_folder) (coded× (coded_option coded_bytes) coded_ℕ)))
 
 abbrev pub coded_rows : Coded Rows
-coded_rows = coded× coded_ℕ (coded× coded_ℕ (coded× (coded_list coded_live) (coded× (coded_option (coded_list coded_place)) (coded× coded_ℕ coded_ℕ))))
+coded_rows = coded× (coded× coded_ℕ coded_ℕ) (coded× (coded× coded_ℕ coded_ℕ) (coded× (coded_list coded_live) (coded× (coded_option (coded_list coded_place)) (coded× coded_ℕ (coded× coded_ℕ coded_ℕ)))))
 
 abbrev pub coded_of_disk : Coded OfDisk
 coded_of_disk = coded× (coded_option coded_halt) (coded× coded_ℕ coded_ℕ)

@@ -1,11 +1,11 @@
 -- What a crash, a closing and an opening make of a state.
-use Rattle.std.specs.Prelude.{◌≡◌, ◌⊎◌, ℕ, ◌≤◌, true, List, [], ◌∷◌, take, length, Some, None, Result}
+use Rattle.std.specs.Prelude.{◌≡◌, ◌⊎◌, ℕ, ◌≤◌, true, List, [], take, length, Some, None, Result}
 use Rattle.std.specs.Option.{option_map}
-use Rattle.lsm_disk.specs.declared.calls.DiskCall.TheVariants as call
 use Rattle.lsm_model.specs.declared.errors.StoreError.{StoreError}
 use Rattle.lsm_model.specs.declared.states.State.{State}
 use Rattle.lsm_model.specs.declared.states.FolderRead.{FolderRead}
 use Rattle.lsm_model.specs.States.{shown_after, written, folder_of}
+use Rattle.lsm_model.specs.Halting.{sync_calls}
 use Rattle.lsm_model.specs.Moves.{Becomes, FailsToRead, HaltsSettling}
 use Rattle.lsm_model.specs.Causes.{halted}
 use Rattle.lsm_model.specs.Answers.{Answers}
@@ -26,7 +26,10 @@ closed s = record s {
   disables = 0;
   active = 0;
   frozen = 0;
+  active_len = 0;
+  frozen_len = 0;
   merging = None;
+  outputs = 0;
   halt = None;
 }
 
@@ -49,10 +52,12 @@ pub record Crashed (s t : State) : Type 0 where
     refusals = t.refusals;
   }
 
--- A closing makes all durable. Pins and disables end.
+-- A closing makes all durable. Pins and disables end. Views are closed first, also where the store is halted, so that the
+-- disk's counts may rise then.
 abbrev pub Closes : State → Result (Unit {0}) StoreError → State → Type 0
 Closes s result t =
-    Answers (halted s) (λ (done : Unit {0}). Becomes (closed (all_durable s)) t) (FailsToRead s t ⊎ HaltsSettling (call.Sync ∷ []) s t) ⊥ (t ≡ s) result
+    Answers (halted s) (λ (done : Unit {0}). Becomes (closed (all_durable s)) t)
+    (FailsToRead s t ⊎ HaltsSettling sync_calls s t) ⊥ (Becomes s t) result
 
 -- An opening takes what is there as its own beginning: all accepted batches, and the doubtful one where it is there. The
 -- other folders read as they did. Not said here: the tables, the next number and the manifest.

@@ -6,9 +6,10 @@ pub mod Codes
 pub mod Counts
 pub mod Crashes
 pub mod Destination
+pub mod Halting
 pub mod Lanes
+pub mod Lives
 pub mod Moves
-pub mod Pairs
 pub mod Pins
 pub mod Plain
 pub mod Reads

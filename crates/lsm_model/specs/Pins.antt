@@ -1,12 +1,12 @@
 -- Cuts and their pins, and how often deletion is disabled.
-use Rattle.std.specs.Prelude.{◌≡◌, ◌⊎◌, ℕ, ◌+◌, Bool, true, false, List, [], ◌∷◌, ◌++◌, map, length, All, Result}
+use Rattle.std.specs.Prelude.{◌≡◌, ℕ, ◌+◌, Bool, true, false, List, [], ◌∷◌, ◌++◌, map, length, All, Result}
 use Rattle.lsm_names.specs.declared.file_names.FileName.{FileName}
 use Rattle.lsm_names.specs.declared.file_names.FileName.TheVariants.{Log}
 use Rattle.lsm_model.specs.declared.cuts.Cut.{Cut}
 use Rattle.lsm_model.specs.declared.cuts.CutFile.{CutFile}
 use Rattle.lsm_model.specs.declared.cuts.LiveFiles.{LiveFiles}
 use Rattle.lsm_model.specs.declared.cuts.FlushRule.{FlushRule}
-use Rattle.lsm_model.specs.declared.cuts.FlushRule.TheVariants.{Never, Always, AtLeast}
+use Rattle.lsm_model.specs.declared.cuts.FlushRule.TheVariants.{Never, Always}
 use Rattle.lsm_model.specs.declared.errors.StoreError.{StoreError}
 use Rattle.lsm_model.specs.declared.states.State.{State}
 use Rattle.lsm_model.specs.declared.states.Pin.{Pin}
@@ -16,32 +16,32 @@ use Rattle.lsm_model.specs.declared.states.Holder.TheVariants.{Caller}
 use Rattle.lsm_model.specs.States.{last_of, without_pin}
 use Rattle.lsm_model.specs.Moves.{Becomes, Flushes}
 use Rattle.lsm_model.specs.Causes.{first_of, halted, pins_full, no_own_pin, disables_full, not_disabled}
-use Rattle.lsm_model.specs.Answers.{Answers, AnswersFlushing}
+use Rattle.lsm_model.specs.Answers.{Answers, does_flush, AnswersFlushing}
 
 -- ---- what a cut takes
 
--- all accepted rows are in tables
+-- all accepted rows are in tables, and none in logs
 pub record IsFlushed (s t : State) : Type 0 where
   pub rest : Flushes s t
   pub active : t.active ≡ 0
   pub frozen : t.frozen ≡ 0
+  pub active_len : t.active_len ≡ 0
+  pub frozen_len : t.frozen_len ≡ 0
 
--- The state at which a cut takes its files. Which one it is by `AtLeast`, the lengths of the logs say, which a state
--- doesn't have.
-abbrev pub CutsAt : FlushRule → State → State → Type 0
-CutsAt Never s t = Becomes s t
-CutsAt Always s t = IsFlushed s t
-CutsAt (AtLeast bytes) s t = Becomes s t ⊎ IsFlushed s t
+-- the state at which a cut takes its files, where rows are flushed or aren't
+abbrev pub CutsAt : Bool → State → State → Type 0
+CutsAt true s t = IsFlushed s t
+CutsAt false s t = Becomes s t
 
 -- the file is no log
 abbrev pub IsNoLog : FileName → Type 0
 IsNoLog (Log number) = ⊥
 IsNoLog name = Unit {0}
 
--- where all rows are in tables no log is listed
-abbrev pub FreeOfLogs : FlushRule → List FileName → Type 0
-FreeOfLogs Always names = All IsNoLog names
-FreeOfLogs rule names = Unit {0}
+-- where rows are flushed no log is listed
+abbrev pub FreeOfLogs : Bool → List FileName → Type 0
+FreeOfLogs true names = All IsNoLog names
+FreeOfLogs false names = Unit {0}
 
 abbrev pub listed : CutFile → FileName × ℕ
 listed file = (file.name, file.len)
@@ -49,25 +49,31 @@ listed file = (file.name, file.len)
 abbrev pub held : PinnedFile → FileName × ℕ
 held file = (file.name, length file.bytes)
 
--- a new pin of all accepted batches, with these files
-abbrev pub new_pin : Holder → List PinnedFile → State → Pin
-new_pin holder files s = record { number = s.greatest_pin + 1; batches = length s.accepted; files = files; holder = holder }
+-- a new pin of all accepted batches, with these files and the manifest that `CURRENT` names for them
+abbrev pub new_pin : Holder → ℕ → List PinnedFile → State → Pin
+new_pin holder manifest files s = record {
+  number = s.greatest_pin + 1;
+  batches = length s.accepted;
+  manifest = manifest;
+  files = files;
+  holder = holder;
+}
 
 -- the state with that pin
-abbrev pub pinned : Holder → List PinnedFile → State → State
-pinned holder files s = record s { pins = s.pins ++ new_pin holder files s ∷ []; greatest_pin = s.greatest_pin + 1 }
+abbrev pub pinned : Holder → ℕ → List PinnedFile → State → State
+pinned holder manifest files s = record s { pins = s.pins ++ new_pin holder manifest files s ∷ []; greatest_pin = s.greatest_pin + 1 }
 
--- What a cut answers, and the pin that it gives. Not said here: that the pinned files stand for the contents, which
--- manifest it is, and the tables' sessions.
+-- What a cut answers, and the pin that it gives: it lists the pin's files in their order, with their lengths, and tells the
+-- pin's manifest. Not said here: that the pinned files stand for the contents, and the tables' sessions.
 pub record IsCut (s : State) (rule : FlushRule) (cut : Cut) (t : State) : Type 0 where
   pub at : State
   pub files : List PinnedFile
-  pub flushed : CutsAt rule s at
+  pub flushed : CutsAt (does_flush rule s) s at
   pub pin : cut.pin ≡ s.greatest_pin + 1
   pub sequence : cut.sequence ≡ last_of s
   pub lists : map listed cut.files ≡ map held files
-  pub logs : FreeOfLogs rule (map (λ (file : CutFile). file.name) cut.files)
-  pub rest : Becomes (pinned Caller files at) t
+  pub logs : FreeOfLogs (does_flush rule s) (map (λ (file : CutFile). file.name) cut.files)
+  pub rest : Becomes (pinned Caller cut.manifest files at) t
 
 -- a cut flushes by its rule, and pins the files of all accepted batches
 abbrev pub Cuts : State → FlushRule → Result Cut StoreError → State → Type 0
@@ -82,10 +88,10 @@ flush_rule false = Never
 
 -- what a cut would list. Not said here: which files.
 pub record AreLiveFiles (s : State) (rule : FlushRule) (live : LiveFiles) (t : State) : Type 0 where
-  pub flushed : CutsAt rule s t
+  pub flushed : CutsAt (does_flush rule s) s t
   pub sequence : live.sequence ≡ last_of s
   pub manifest_len : live.manifest_len ≡ t.manifest_len
-  pub logs : FreeOfLogs rule (map (λ (file : CutFile). file.name) live.files)
+  pub logs : FreeOfLogs (does_flush rule s) (map (λ (file : CutFile). file.name) live.files)
 
 abbrev pub ListsFiles : State → Bool → Result LiveFiles StoreError → State → Type 0
 ListsFiles s flush result t =

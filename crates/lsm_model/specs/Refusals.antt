@@ -9,9 +9,11 @@ use Rattle.lsm_model.specs.declared.events.Event.TheVariants as event
 use Rattle.lsm_model.specs.declared.replies.Reply.{Reply}
 use Rattle.lsm_model.specs.declared.states.State.{State}
 use Rattle.lsm_model.specs.Causes.{first_of, halted, sequence_full, pins_full, disables_full, not_disabled, no_pin, no_own_pin, no_job, not_in_pin, is_taken, number_end, table_limit}
-use Rattle.lsm_model.specs.Upkeep.{can_freeze, no_number_for_log}
-use Rattle.lsm_model.specs.Checkpoints.{begin_refusal}
-use Rattle.lsm_model.specs.Pins.{unpinned}
+use Rattle.lsm_model.specs.declared.cuts.FlushRule.{FlushRule}
+use Rattle.lsm_model.specs.Answers.{rule_draws, rule_tables}
+use Rattle.lsm_model.specs.Upkeep.{can_freeze, no_number_for_log, table_draws, merge_draws, StayBeside}
+use Rattle.lsm_model.specs.Checkpoints.{begin_refusal, size_rule}
+use Rattle.lsm_model.specs.Pins.{unpinned, flush_rule}
 use Rattle.lsm_model.specs.Reads.{ReadsAs}
 use Rattle.lsm_model.specs.Steps as answer_of
 
@@ -78,12 +80,35 @@ abbrev pub Unchanged : Event → State → State → Type 0
 Unchanged (event.CheckpointFinish pin) s t = (t ≡ s) ⊎ (t ≡ unpinned pin s)
 Unchanged other s t = t ≡ s
 
+-- how many file numbers an event draws at most: one for each log, table and manifest that it makes
+abbrev pub most_draws : Event → State → ℕ
+most_draws event.FlushStep s = table_draws
+most_draws (event.CompactStep rows) s = merge_draws rows
+most_draws (event.Cut rule) s = rule_draws rule s
+most_draws (event.LiveFiles flush) s = rule_draws (flush_rule flush) s
+most_draws (event.CheckpointBegin dir size) s = rule_draws (size_rule size) s
+most_draws other s = 0
+
+-- where a rule has rows flushed, one table is added to those that were live before, or to one more
+abbrev pub MayAddOne : FlushRule → State → ℕ → ℕ → Type 0
+MayAddOne rule s live adding = (length s.tables ≤ live) × (live < length s.tables + rule_tables rule s) × (adding ≡ 1)
+
+-- Beside so many live tables an event may add so many: a flush one; a compaction its outputs, where its inputs go.
+abbrev pub MayAdd : Event → State → ℕ → ℕ → Type 0
+MayAdd event.FlushStep s live adding = (live ≡ length s.tables) × (adding ≡ 1)
+MayAdd (event.CompactStep rows) s live adding = StayBeside live s × (adding ≤ s.outputs + rows)
+MayAdd (event.Cut rule) s live adding = MayAddOne rule s live adding
+MayAdd (event.LiveFiles flush) s live adding = MayAddOne (flush_rule flush) s live adding
+MayAdd (event.CheckpointBegin dir size) s live adding = MayAddOne (size_rule size) s live adding
+MayAdd other s live adding = ⊥
+
 -- Each refusal has one of these causes, and no other comes.
 pub data HasCause (s : State) (e : Event) (refusal : StoreError) (t : State) : Type 0 where
   Known : known_refusal e s ≡ Some refusal → HasCause s e refusal t
   Disk_failed : refusal ≡ error.DiskFault → Rose s.faults t.faults → HasCause s e refusal t
   Memory_wanting : refusal ≡ error.NoMemory → HasCause s e refusal t
-  Numbers_full : (next : ℕ) → refusal ≡ error.NumbersFull next → number_end ≤ next → HasCause s e refusal t
-  Tables_full : (live adding : ℕ) → refusal ≡ error.TablesFull live adding → table_limit < live + adding → HasCause s e refusal t
+  Numbers_full : (next : ℕ) → refusal ≡ error.NumbersFull next → number_end ≤ next → next < s.next + most_draws e s → HasCause s e refusal t
+  Tables_full : (live adding : ℕ) → refusal ≡ error.TablesFull live adding → table_limit < live + adding
+      → MayAdd e s live adding → HasCause s e refusal t
   Name_taken : (dir : List ℕ) → refusal ≡ error.CheckpointExists dir → is_taken dir s ≡ true → HasCause s e refusal t
   Reads_so : (dir : List ℕ) → e ≡ event.Show dir → ReadsAs s dir (bytes_eq s.own dir) (Err refusal) → HasCause s e refusal t

@@ -66,8 +66,11 @@ core s = record {
 pub data Moves (s t : Core) (batches : List (List Op)) : Type 0 where
   Same : batches ≡ [] → t ≡ s → Moves s t batches
   Wrote : (ops : List Op) → batches ≡ ops ∷ [] → t ≡ record s { accepted = s.accepted ++ ops ∷ [] } → Moves s t batches
-  Pinned : (holder : Holder) (files : List PinnedFile) → batches ≡ []
-      → t ≡ record s { pins = s.pins ++ (record { number = s.greatest_pin + 1; batches = length s.accepted; files = files; holder = holder }) ∷ []; greatest_pin = s.greatest_pin + 1 } → Moves s t batches
+  Pinned : (holder : Holder) (manifest : ℕ) (files : List PinnedFile) → batches ≡ []
+      → t ≡ record s {
+        pins = s.pins ++ (record { number = s.greatest_pin + 1; batches = length s.accepted; manifest = manifest; files = files; holder = holder }) ∷ [];
+        greatest_pin = s.greatest_pin + 1;
+      } → Moves s t batches
   Spent : batches ≡ [] → t ≡ record s { greatest_pin = s.greatest_pin + 1 } → Moves s t batches
   Unpinned : (number : ℕ) → batches ≡ [] → t ≡ record s { pins = without_pin number s.pins } → Moves s t batches
   Stepped : (number : ℕ) (pin : Pin) (holder : Holder) → batches ≡ [] → pin_of number s.pins ≡ Some pin → built_by holder ≡ built_by pin.holder

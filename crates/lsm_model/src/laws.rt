@@ -19,6 +19,7 @@ ghost use Rattle.lsm_model.specs.States.{shown_at, contents_now, last_of, pin_of
 ghost use Rattle.lsm_model.specs.Steps.{Step, Run};
 ghost use Rattle.lsm_model.specs.Runs.{accepted_in, shown_behind};
 ghost use Rattle.lsm_model.specs.Crashes.{Crashed, Closes, Opened};
+ghost use Rattle.lsm_model.specs.Lives.{Lives, AreLeft};
 ghost use Rattle.lsm_model.specs.Calls.{call_of, answered};
 ghost use Rattle.lsm_model.specs.Counts.{IsCounted, IsSynced};
 ghost use Rattle.lsm_model.specs.Checkpoints.{IsJob, checkpoint_folder};
@@ -58,8 +59,8 @@ pub fn counts_go_with_lists()
     ensures crash { (s t : State) → Crashed s t → IsCounted t }
     ensures opening { (s t : State) → Opened s t → IsCounted t }
     ensures closing { (s t : State) (result : Result (Unit {0}) StoreError) → Closes s result t → IsCounted s → IsCounted t }
-    ensures restore { (s t : State) (dir : List ℕ) (calls : List DiskCall) (result : Result (Unit {0}) DestError)
-        → BeginsFolder s dir result t ⊎ (FillsFolder calls s result t ⊎ FinishesFolder s result t) → IsCounted s → IsCounted t }
+    ensures restore { (s t : State) (dir : List ℕ) (call : DiskCall) (result : Result (Unit {0}) DestError)
+        → BeginsFolder s dir result t ⊎ (FillsFolder call s result t ⊎ FinishesFolder s result t) → IsCounted s → IsCounted t }
 {}
 
 /// How many batches are durable never falls over a run. After a write with `sync` or a sync, answered Ok, all are.
@@ -158,6 +159,15 @@ pub fn an_opening_finds_a_prefix()
     ensures closing { (s m t : State) → Closes s (Ok tt) m → Opened m t → (t.opening ≡ contents_now s) × (t.began ≡ last_of s) }
     ensures given_up { (s t : State) → Opened s t
         → ((t.opening ≡ contents_now s) × (t.began ≡ last_of s)) ⊎ ((t.opening ≡ replayed s.opening (written s)) × (t.began ≡ sequence_after s.began (written s))) }
+{}
+
+/// Over any lives, the opens of a store one after another, however each of them ends: the contents that the last opening
+/// finds are the replay of what each life left, one behind another. Each left a front of its accepted batches, with all that
+/// were synced, and perhaps behind all of them one whose write met a fault.
+#[tactic(auto, using(crate::proofs::LifeLemmas::lives_leave))]
+pub fn lives_leave_prefixes()
+    ensures { (s t : State) (lives : List (List (Event × Reply))) → IsCounted s → s.accepted ≡ [] → Lives s lives t
+        → (left : List (List Op)) × AreLeft lives left × (t.opening ≡ replayed s.opening left) × (t.began ≡ sequence_after s.began left) }
 {}
 
 /// A checkpoint that is finished is a folder of its pin's batches, and is sure.

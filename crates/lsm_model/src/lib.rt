@@ -8,13 +8,10 @@ mod events;
 mod lane_laws;
 mod laws;
 mod lookups;
-mod pairs;
 mod plain;
 mod replies;
 mod states;
 mod store;
-#[cfg(test)]
-mod tests;
 
 pub use cuts::{Cut, CutFile, CutFiles, FlushRule, LiveFiles};
 pub use errors::StoreError;
@@ -29,9 +26,8 @@ pub use laws::{
     a_pinned_file_never_changes, a_reply_is_of_its_event, a_run_goes_on_by_one_step,
     accepted_batches_form_one_list, an_opening_finds_a_prefix, counts_go_with_lists,
     durable_batches_only_grow, durable_batches_outlive_a_crash, each_refusal_has_its_cause,
-    sequences_count_operations,
+    lives_leave_prefixes, sequences_count_operations,
 };
-pub use pairs::Pairs;
 pub use replies::{Begun, Deleted, Flushed, JobStart, Reply, Shown, Stepped};
 pub use states::{FolderRead, Holder, LiveTable, Pin, PinnedFile, State};
 pub use store::PlainStore;

@@ -1,6 +1,6 @@
 //! The lists of a plain store, and a call for each event, which answers as the abstract store says. The calls have the
 //! condition that the lists fit one another; `PlainStore` keeps it for its callers.
-ghost use Rattle.std.specs.Prelude.{◌≡◌, ◌≤◌, ◌<◌, ◌+◌, ◌^◌, ◌++◌, ◌∷◌, [], ℕ, List, length, take, MatchResult, IfOk, OnOk, OnErr, sum_by};
+ghost use Rattle.std.specs.Prelude.{◌≡◌, ◌≤◌, ◌<◌, ◌+◌, ◌^◌, ◌++◌, ◌∷◌, [], ℕ, List, length, take, nat_le, MatchResult, IfOk, OnOk, OnErr, sum_by};
 ghost use Rattle.std.specs.FinMap as finite;
 ghost use Rattle.lsm_rows.specs.Replay.{replayed, sequence_after};
 ghost use Rattle.lsm_model.specs.Plain.{state_of, empty_state, IsPlain};
@@ -18,12 +18,12 @@ use crate::lookups::{
     less_operations, less_rows, same_name,
 };
 use crate::{
-    Begun, Cut, CutFiles, Deleted, Event, FlushRule, Flushed, Holder, JobStart, LiveFiles, Pairs,
-    Pin, Reply, Shown, Stepped, StoreError, Which,
+    Begun, Cut, CutFiles, Deleted, Event, FlushRule, Flushed, Holder, JobStart, LiveFiles, Pin,
+    Reply, Shown, Stepped, StoreError, Which,
 };
 use lsm_bytes::{Bytes, NoMemory};
 use lsm_names::{FileName, Folder};
-use lsm_rows::Batch;
+use lsm_rows::{Batch, Pairs};
 use std::alloc::Global;
 use std::collections::LinkedList;
 
@@ -32,6 +32,9 @@ const LAST_SEQUENCE: u64 = (1 << 56) - 1;
 
 /// No number of a file is left from here on.
 const NUMBER_END: u64 = (1 << 56) - 1;
+
+/// The bytes that stand before a record of a log.
+const RECORD_HEADER: u64 = 7;
 
 /// How many pins may live.
 const PIN_LIMIT: usize = 64;
@@ -56,6 +59,8 @@ pub struct PlainLists {
     disables: u32,
     active: u64,
     frozen: u64,
+    active_len: u64,
+    frozen_len: u64,
     next: u64,
 }
 
@@ -104,17 +109,20 @@ impl PlainLists {
             disables: 0,
             active: 0,
             frozen: 0,
+            active_len: 0,
+            frozen_len: 0,
             next: 1,
         }
     }
 
-    /// One batch more.
+    /// One batch more. Its log is longer by its text and a record's header.
     pub fn write(&mut self, batch: Batch, sync: bool) -> Result<u64, StoreError>
         requires { IsPlain self.old }
         ensures step { Writes (state_of self.old) batch sync result (state_of self.new) }
         ensures plain { IsPlain self.new }
     {
         let count = batch.len() as u64;
+        let size = batch.text_len() as u64;
         if self.sequence + count > LAST_SEQUENCE {
             return Err(StoreError::SequenceFull {
                 last: self.sequence,
@@ -124,11 +132,15 @@ impl PlainLists {
         if self.active == u64::MAX {
             return Err(StoreError::NoMemory);
         }
+        if size >= (u64::MAX - self.active_len).saturating_sub(RECORD_HEADER) {
+            return Err(StoreError::NoMemory);
+        }
         let Ok(()) = push_batch(&mut self.accepted, batch) else {
             return Err(StoreError::NoMemory);
         };
         self.sequence += count;
         self.active += 1;
+        self.active_len += size + RECORD_HEADER;
         if sync {
             self.durable = self.accepted.as_slice().len() as u64;
             return Ok(self.sequence);
@@ -231,6 +243,8 @@ impl PlainLists {
         }
         self.frozen = self.active;
         self.active = 0;
+        self.frozen_len = self.active_len;
+        self.active_len = 0;
         self.next += 1;
         Ok(true)
     }
@@ -245,6 +259,7 @@ impl PlainLists {
             return Ok(Flushed::NoJob);
         }
         self.frozen = 0;
+        self.frozen_len = 0;
         Ok(Flushed::Installed)
     }
 
@@ -262,7 +277,7 @@ impl PlainLists {
     /// No compaction is under way.
     pub fn compact_step(&self) -> Result<Stepped, StoreError>
         requires { IsPlain self.now }
-        ensures { StepsCompaction (state_of self.now) result (state_of self.now) }
+        ensures { (rows : ℕ) → StepsCompaction (state_of self.now) rows result (state_of self.now) }
     {
         Ok(Stepped::NoJob)
     }
@@ -303,6 +318,8 @@ impl PlainLists {
         if flush {
             self.active = 0;
             self.frozen = 0;
+            self.active_len = 0;
+            self.frozen_len = 0;
             return Ok(self.no_files());
         }
         Ok(self.no_files())
@@ -312,7 +329,7 @@ impl PlainLists {
     fn add_pin(&mut self, holder: Holder) -> Result<u64, NoMemory>
         requires plain { IsPlain self.old }
         requires room { length self.old.pins.items < pin_limit }
-        ensures ok { OnOk result (state_of self.new ≡ pinned holder [] (state_of self.old)) }
+        ensures ok { OnOk result (state_of self.new ≡ pinned holder 0 [] (state_of self.old)) }
         ensures number { IfOk result (λ number. number ≡ self.old.greatest_pin + 1) }
         ensures same { OnErr result (state_of self.new ≡ state_of self.old) }
         ensures plain { IsPlain self.new }
@@ -323,6 +340,7 @@ impl PlainLists {
         let pin = Pin {
             number: self.greatest_pin + 1,
             batches: self.accepted.as_slice().len() as u64,
+            manifest: 0,
             files: LinkedList::new(self.alloc),
             holder,
         };
@@ -337,6 +355,7 @@ impl PlainLists {
     fn cut_of(&self, pin: u64, sequence: u64) -> Cut
         ensures pin { result.pin ≡ pin }
         ensures sequence { result.sequence ≡ sequence }
+        ensures manifest { result.manifest ≡ 0 }
         ensures files { result.files ≡ [] }
     {
         Cut {
@@ -347,7 +366,14 @@ impl PlainLists {
         }
     }
 
-    /// Pins all accepted batches. By `AtLeast` it flushes always, since there is no log that could be short.
+    // Whether the logs have so many bytes.
+    fn reaches(&self, bytes: u64) -> bool
+        ensures { result ≡ nat_le bytes (self.now.frozen_len + self.now.active_len) }
+    {
+        bytes.saturating_sub(self.frozen_len) <= self.active_len
+    }
+
+    /// Pins all accepted batches.
     pub fn cut(&mut self, rule: FlushRule) -> Result<Cut, StoreError>
         requires { IsPlain self.old }
         ensures step { Cuts (state_of self.old) rule result (state_of self.new) }
@@ -365,11 +391,18 @@ impl PlainLists {
             FlushRule::Always => {
                 self.active = 0;
                 self.frozen = 0;
+                self.active_len = 0;
+                self.frozen_len = 0;
                 Ok(self.cut_of(pin, sequence))
             }
-            FlushRule::AtLeast(_) => {
-                self.active = 0;
-                self.frozen = 0;
+            FlushRule::AtLeast(bytes) => {
+                if self.reaches(bytes) {
+                    self.active = 0;
+                    self.frozen = 0;
+                    self.active_len = 0;
+                    self.frozen_len = 0;
+                    return Ok(self.cut_of(pin, sequence));
+                }
                 Ok(self.cut_of(pin, sequence))
             }
         }
@@ -466,7 +499,7 @@ impl PlainLists {
         }
     }
 
-    /// Pins all accepted batches for a folder. It flushes always, as `cut` does, and no file is to be linked or copied.
+    /// Pins all accepted batches for a folder. No file is to be linked or copied.
     pub fn checkpoint_begin(
         &mut self,
         dir: Folder,
@@ -489,8 +522,13 @@ impl PlainLists {
         let Ok(pin) = self.add_pin(Holder::Checkpoint { dir, left: 0 }) else {
             return Err(StoreError::NoMemory);
         };
-        self.active = 0;
-        self.frozen = 0;
+        if self.reaches(log_size_for_flush) {
+            self.active = 0;
+            self.frozen = 0;
+            self.active_len = 0;
+            self.frozen_len = 0;
+            return Ok(JobStart { pin, sequence });
+        }
         Ok(JobStart { pin, sequence })
     }
 

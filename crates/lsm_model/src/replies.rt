@@ -1,7 +1,8 @@
 //! What the calls of a store answer.
-use crate::{Cut, LiveFiles, Pairs, StoreError};
+use crate::{Cut, LiveFiles, StoreError};
 use lsm_bytes::Bytes;
 use lsm_names::FileName;
+use lsm_rows::Pairs;
 use lsm_version::Places;
 
 /// What a step of a flush did.

@@ -1,9 +1,9 @@
 //! The abstract store. A state is what calls and crashes are said of; no code makes one.
-use crate::{Pairs, Shown, StoreError};
+use crate::{Shown, StoreError};
 use lsm_bytes::Bytes;
 use lsm_disk::Halt;
 use lsm_names::{FileName, Folder};
-use lsm_rows::Batch;
+use lsm_rows::{Batch, Pairs};
 use lsm_version::Places;
 use std::collections::LinkedList;
 
@@ -28,6 +28,8 @@ pub enum Holder {
 pub struct Pin {
     pub number: u64,
     pub batches: u64,
+    /// The number of the manifest that `CURRENT` names for these files.
+    pub manifest: u64,
     pub files: LinkedList<PinnedFile>,
     pub holder: Holder,
 }
@@ -74,10 +76,16 @@ pub struct State {
     pub active: u64,
     /// How many of the batches before them have frozen rows, which are in no table yet.
     pub frozen: u64,
+    /// How many bytes the last log has, in which the active rows are.
+    pub active_len: u64,
+    /// How many bytes the older logs have, in which the frozen rows are.
+    pub frozen_len: u64,
     /// The live tables.
     pub tables: LinkedList<LiveTable>,
     /// The inputs of the compaction under way.
     pub merging: Option<Places>,
+    /// How many tables that compaction has begun.
+    pub outputs: u64,
     /// The number of the next file.
     pub next: u64,
     /// The length of the manifest in bytes.

@@ -11,7 +11,8 @@ use Rattle.lsm_names.specs.FileNames.{spelled, IsFileName}
 use Rattle.lsm_names.specs.Numbers.{six_digits, is_file_number}
 use Rattle.lsm_names.specs.Paths.{is_component_byte, is_component}
 use Rattle.lsm_names.proofs.NumberLemmas.{padded_is_digits, padded_injective, padded_has_digits, padded_is_short}
-use Rattle.lsm_names.proofs.PathLemmas.{both, list_all-append, list_all-weaker, component_of_parts, not_dots}
+use Rattle.lsm_names.proofs.PathLemmas.{list_all-append, list_all-weaker, component_of_parts, not_dots}
+use Rattle.std.proofs.lemmas.Bool.{and_parts}
 
 -- ---- a file's number
 
@@ -32,7 +33,7 @@ six_is_short number h = padded_is_short 6 number (omega arith) (file_number_fits
 
 digit_first : (digits behind : List ℕ) → 0 < length digits → list_all is_ascii_digit digits ≡ true → is_ascii_digit (slice_index (digits ++ behind) 0) ≡ true
 digit_first [] behind some h = absurd (omega arith)
-digit_first (digit ∷ digits) behind some h = (both (is_ascii_digit digit) (list_all is_ascii_digit digits) h).0
+digit_first (digit ∷ digits) behind some h = (and_parts (is_ascii_digit digit) (list_all is_ascii_digit digits) h).0
 
 number_first : (number : ℕ) (behind : List ℕ) → is_file_number number ≡ true → is_ascii_digit (slice_index (six_digits number ++ behind) 0) ≡ true
 number_first number behind h = digit_first (six_digits number) behind (has_six number h) (six_are_digits number h)
@@ -86,7 +87,7 @@ pub digit_is_component_byte : (byte : ℕ) → is_ascii_digit byte ≡ true → 
 unfolding is_component_byte
 digit_is_component_byte byte h = grind (arith, nat_tests)
 
-digit_is_alphanumeric : (byte : ℕ) → is_ascii_digit byte ≡ true → is_ascii_alphanumeric byte ≡ true
+pub digit_is_alphanumeric : (byte : ℕ) → is_ascii_digit byte ≡ true → is_ascii_alphanumeric byte ≡ true
 digit_is_alphanumeric byte h = grind (arith, nat_tests)
 
 pub six_are_component_bytes : (number : ℕ) → is_file_number number ≡ true → list_all is_component_byte (six_digits number) ≡ true

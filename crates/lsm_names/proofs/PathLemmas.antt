@@ -10,17 +10,14 @@ use Rattle.std.proofs.lemmas.Str.Ascii.{IsAscii-nil, IsAscii-cons}
 use Rattle.std.proofs.lemmas.List.{length-append, take-append-drop, drop_more}
 use Rattle.std.proofs.lemmas.List.Splits.{slice_split-cons_yes, slice_split-cons_no, length-slice_split, join_with_byte-slice_split}
 use Rattle.lsm_names.specs.Paths.{is_component_byte, is_dots, is_component, is_slash, components, is_path, put_before, cut_last, or_root, parent_of}
+use Rattle.std.proofs.lemmas.Bool.{and_parts}
 
 -- ---- tests of lists
-
-pub both : (a b : Bool) → (a && b) ≡ true → (a ≡ true) × (b ≡ true)
-both true b h = (refl, h)
-both false b h = absurd (cc)
 
 pub list_all-append : {X : Type 0} (test : X → Bool) (xs ys : List X) → list_all test xs ≡ true → list_all test ys ≡ true → list_all test (xs ++ ys) ≡ true
 list_all-append test [] ys front back = back
 list_all-append test (x ∷ xs) ys front back =
-    let parts = both (test x) (list_all test xs) front in
+    let parts = and_parts (test x) (list_all test xs) front in
     let rest = list_all-append test xs ys parts.1 back in
     cc
 
@@ -28,7 +25,7 @@ list_all-append test (x ∷ xs) ys front back =
 pub list_all-weaker : {X : Type 0} (test weaker : X → Bool) → ((x : X) → test x ≡ true → weaker x ≡ true) → (xs : List X) → list_all test xs ≡ true → list_all weaker xs ≡ true
 list_all-weaker test weaker gives [] h = refl
 list_all-weaker test weaker gives (x ∷ xs) h =
-    let parts = both (test x) (list_all test xs) h in
+    let parts = and_parts (test x) (list_all test xs) h in
     let first = gives x parts.0 in
     let rest = list_all-weaker test weaker gives xs parts.1 in
     cc
@@ -102,7 +99,7 @@ no_slash_byte byte h = grind (arith, nat_tests)
 pub one_part : (part : List ℕ) → list_all is_component_byte part ≡ true → components part ≡ part ∷ []
 one_part [] h = refl
 one_part (byte ∷ part) h =
-    let parts = both (is_component_byte byte) (list_all is_component_byte part) h in
+    let parts = and_parts (is_component_byte byte) (list_all is_component_byte part) h in
     slice_split-cons_no is_slash byte part (no_slash_byte byte parts.0) ∙ ap (onto_first byte) (one_part part parts.1)
 
 -- ---- a path is ASCII text
@@ -114,14 +111,14 @@ component_byte_is_ascii byte h = grind (arith, nat_tests)
 pub part_is_ascii : (part : List ℕ) → list_all is_component_byte part ≡ true → IsAscii part
 part_is_ascii [] h = IsAscii-nil
 part_is_ascii (byte ∷ part) h =
-    let parts = both (is_component_byte byte) (list_all is_component_byte part) h in
+    let parts = and_parts (is_component_byte byte) (list_all is_component_byte part) h in
     IsAscii-cons byte part (component_byte_is_ascii byte parts.0) (part_is_ascii part parts.1)
 
 joined_is_ascii : (parts : List (List ℕ)) → list_all is_component parts ≡ true → IsAscii (join_with_byte 47 parts)
 joined_is_ascii [] h = IsAscii-nil
-joined_is_ascii (part ∷ []) h = part_is_ascii part (bytes_of_component part (both (is_component part) true h).0)
+joined_is_ascii (part ∷ []) h = part_is_ascii part (bytes_of_component part (and_parts (is_component part) true h).0)
 joined_is_ascii (part ∷ next ∷ parts) h =
-    let cut = both (is_component part) (list_all is_component (next ∷ parts)) h in
+    let cut = and_parts (is_component part) (list_all is_component (next ∷ parts)) h in
     let rest = join_with_byte 47 (next ∷ parts) in
     IsAscii-append part (47 ∷ rest) (part_is_ascii part (bytes_of_component part cut.0)) (IsAscii-cons 47 rest (omega arith) (joined_is_ascii (next ∷ parts) cut.1))
 
@@ -153,7 +150,7 @@ joined_is_path front part p q short =
 
 -- the empty text has one part, which is no component
 pub path_has_bytes : (path : List ℕ) → is_path path ≡ true → 1 ≤ length path
-path_has_bytes [] h = component_has_bytes [] (both (is_component []) true (parts_of_path [] h)).0
+path_has_bytes [] h = component_has_bytes [] (and_parts (is_component []) true (parts_of_path [] h)).0
 path_has_bytes (byte ∷ path) h = omega arith
 
 -- ---- the folders that they stand in
@@ -161,7 +158,7 @@ path_has_bytes (byte ∷ path) h = omega arith
 no_slash : (part : List ℕ) → list_all is_component_byte part ≡ true → cut_last part ≡ None
 no_slash [] h = refl
 no_slash (byte ∷ part) h =
-    let cut = both (is_component_byte byte) (list_all is_component_byte part) h in
+    let cut = and_parts (is_component_byte byte) (list_all is_component_byte part) h in
     ap (put_before byte) (no_slash part cut.1) ∙ rw (no_slash_byte byte cut.0)
 
 pub parent_of_component : (part : List ℕ) → is_component part ≡ true → parent_of part ≡ []

@@ -16,8 +16,9 @@ use Rattle.lsm_names.specs.Paths.{is_component_byte, is_component}
 use Rattle.lsm_names.specs.SharedNames.{spelled_shared, IsSharedName}
 use Rattle.lsm_names.proofs.NumberLemmas.{digit_texts}
 use Rattle.lsm_names.proofs.FileNameLemmas.{six_are_digits, six_injective, digit_is_component_byte, number_is_component}
-use Rattle.lsm_names.proofs.PathLemmas.{list_all-append, list_all-weaker, both}
+use Rattle.lsm_names.proofs.PathLemmas.{list_all-append, list_all-weaker}
 use Rattle.lsm_names.proofs.SessionLemmas.{length_of_session, session_has_component_bytes, session_has_no_underscore}
+use Rattle.std.proofs.lemmas.Bool.{and_parts}
 
 -- no zeros in front
 pub decimal_is_padded : (number : ℕ) → padded_decimal 0 number ≡ decimal number
@@ -42,7 +43,7 @@ six_have_no_underscore number h = list_all-weaker is_ascii_digit (λ byte. not (
 pub first_underscore : (front back : List ℕ) → list_all (λ byte. not (byte == 95)) front ≡ true → position_or_len (λ byte. byte == 95) (front ++ 95 ∷ back) ≡ length front
 first_underscore [] back h = refl
 first_underscore (byte ∷ front) back h =
-    let cut = both (not (byte == 95)) (list_all (λ byte. not (byte == 95)) front) h in
+    let cut = and_parts (not (byte == 95)) (list_all (λ byte. not (byte == 95)) front) h in
     let rest = first_underscore front back cut.1 in
     rw cut.0 (omega arith)
 

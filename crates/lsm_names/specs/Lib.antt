@@ -1,3 +1,4 @@
+pub mod Codes
 pub mod FileNames
 pub mod Folders
 pub mod Numbers

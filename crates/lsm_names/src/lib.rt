@@ -9,8 +9,6 @@ mod numbers;
 mod paths;
 mod sessions;
 mod shared_names;
-#[cfg(test)]
-mod tests;
 mod text;
 
 pub use errors::{NotAName, TooLong};

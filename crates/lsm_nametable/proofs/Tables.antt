@@ -24,14 +24,11 @@ use Rattle.lsm_disk.proofs.Lawful.{get_gone, tail_cases, not_itself}
 use Rattle.lsm_nametable.specs.declared.table.Target.{Target}
 use Rattle.lsm_nametable.specs.Target.{node_of}
 use Rattle.lsm_nametable.specs.Table.{shown, table_of, with_name, taken_along, put_all, HasSome}
+use Rattle.std.proofs.lemmas.Bool.{and_parts}
 
 both : (a b : Bool) → T a → T b → T (a && b)
 both true b p q = q
 both false b p q = p
-
-both_true : (a b : Bool) → (a && b) ≡ true → (a ≡ true) × (b ≡ true)
-both_true true b h = (refl, h)
-both_true false b h = cc
 
 -- two tables that answer alike are the same map
 pub same_names : (m n : Names) → ((q : List ℕ) → map.get m q ≡ map.get n q) → m ≡ n
@@ -153,7 +150,7 @@ move_same names path node there = same_names names (map.insert (map.remove names
 
 list_all-last : {X : Type 0} (test : X → Bool) (xs ys : List X) → list_all test (xs ++ ys) ≡ true → list_all test ys ≡ true
 list_all-last test [] ys all = all
-list_all-last test (x ∷ xs) ys all = list_all-last test xs ys (both_true (test x) (list_all test (xs ++ ys)) all).1
+list_all-last test (x ∷ xs) ys all = list_all-last test xs ys (and_parts (test x) (list_all test (xs ++ ys)) all).1
 
 -- the last component of a path is a path
 pub rest_is_path : (folder key rest : List ℕ) → is_path key ≡ true → inside folder key ≡ Some rest → is_path rest ≡ true

@@ -3,7 +3,5 @@
 #![tactic(auto)]
 
 mod publishing;
-#[cfg(test)]
-mod tests;
 
 pub use publishing::{publish, published_in_each_image, switch, write_temporary};

@@ -12,9 +12,8 @@ use Rattle.std.proofs.lemmas.List.Elements.{All-nil, All-cons, All-head, All-tai
 use Rattle.lsm_bytes.specs.Numbers.{number_at}
 use Rattle.lsm_bytes.specs.Varint.{varint}
 use Rattle.lsm_rows.specs.InternalKeys.{internal_cmp}
-use Rattle.lsm_names.proofs.PathLemmas.{both}
 use Rattle.lsm_folder.specs.Batches.{number_ahead}
-use Rattle.lsm_folder.proofs.NameLemmas.{same_text, equal_texts, some_of, and_true}
+use Rattle.lsm_folder.proofs.NameLemmas.{same_text, equal_texts, and_true}
 use Rattle.lsm_block.specs.declared.entries.Entry.{Entry}
 use Rattle.lsm_block.specs.BlockText.{shared_len, parts_text, entry_text, entries_from, entries_text, restarts_text, block_text}
 use Rattle.lsm_block.specs.Blocks.{IsKey, keys_of, IsBlock, IsBlockText}
@@ -28,6 +27,9 @@ use Rattle.lsm_reading.specs.Keys.{is_internal_key}
 use Rattle.lsm_reading.specs.Blocks.{entry_ahead, entries_ahead, before_restarts, claimed_block, keys_ascend, block_fits, block_of}
 use Rattle.lsm_reading.proofs.AheadLemmas.{number_back, take_front, drop_front, at_most, within, less_than, below}
 use Rattle.lsm_reading.proofs.KeyLemmas.{key_is_tested, tested_key}
+use Rattle.std.proofs.lemmas.Option.{same_Some}
+use Rattle.std.proofs.lemmas.Bool.{and_parts}
+use Rattle.lsm_block.proofs.Sought.{is_less}
 
 -- ---- entries
 
@@ -105,11 +107,6 @@ entries_back (suc fuel) number before (e ∷ es) fits =
 lower : (o : Ordering) → o ≡ Less → is_lt o ≡ true
 lower o is = ap is_lt is
 
-less : (o : Ordering) → is_lt o ≡ true → o ≡ Less
-less Less h = refl
-less Equal h = cc
-less Greater h = cc
-
 lower_all : (key : List ℕ) (keys : List (List ℕ)) → All (λ (later : List ℕ). internal_cmp key later ≡ Less) keys → list_all (λ (later : List ℕ). is_lt (internal_cmp key later)) keys ≡ true
 lower_all key [] all = refl
 lower_all key (k ∷ keys) all =
@@ -119,8 +116,8 @@ lower_all key (k ∷ keys) all =
 all_lower : (key : List ℕ) (keys : List (List ℕ)) → list_all (λ (later : List ℕ). is_lt (internal_cmp key later)) keys ≡ true → All (λ (later : List ℕ). internal_cmp key later ≡ Less) keys
 all_lower key [] h = All-nil (λ (later : List ℕ). internal_cmp key later ≡ Less)
 all_lower key (k ∷ keys) h =
-    let parts = both (is_lt (internal_cmp key k)) (list_all (λ (later : List ℕ). is_lt (internal_cmp key later)) keys) h in
-    All-cons (λ (later : List ℕ). internal_cmp key later ≡ Less) k keys (less (internal_cmp key k) parts.0) (all_lower key keys parts.1)
+    let parts = and_parts (is_lt (internal_cmp key k)) (list_all (λ (later : List ℕ). is_lt (internal_cmp key later)) keys) h in
+    All-cons (λ (later : List ℕ). internal_cmp key later ≡ Less) k keys (is_less (internal_cmp key k) parts.0) (all_lower key keys parts.1)
 
 ascend_tested : (keys : List (List ℕ)) → IsStrictlySortedBy internal_cmp keys → keys_ascend keys ≡ true
 ascend_tested [] up = refl
@@ -129,7 +126,7 @@ ascend_tested (k ∷ keys) up = and_true _ _ (lower_all k keys (sorted-above int
 tested_ascend : (keys : List (List ℕ)) → keys_ascend keys ≡ true → IsStrictlySortedBy internal_cmp keys
 tested_ascend [] h = sorted-nil internal_cmp
 tested_ascend (k ∷ keys) h =
-    let parts = both (list_all (λ (later : List ℕ). is_lt (internal_cmp k later)) keys) (keys_ascend keys) h in
+    let parts = and_parts (list_all (λ (later : List ℕ). is_lt (internal_cmp k later)) keys) (keys_ascend keys) h in
     sorted-cons internal_cmp k keys (all_lower k keys parts.0) (tested_ascend keys parts.1)
 
 keys_tested : (keys : List (List ℕ)) → All IsKey keys → list_all is_internal_key keys ≡ true
@@ -139,7 +136,7 @@ keys_tested (k ∷ keys) all = and_true _ _ (key_is_tested k (All-head IsKey k k
 tested_keys : (keys : List (List ℕ)) → list_all is_internal_key keys ≡ true → All IsKey keys
 tested_keys [] h = All-nil IsKey
 tested_keys (k ∷ keys) h =
-    let parts = both (is_internal_key k) (list_all is_internal_key keys) h in
+    let parts = and_parts (is_internal_key k) (list_all is_internal_key keys) h in
     All-cons IsKey k keys (tested_key k parts.0) (tested_keys keys parts.1)
 
 block_tested : (es : List Entry) → IsBlock es → block_fits es ≡ true
@@ -155,9 +152,9 @@ tested_block es h =
     let some : Bool = nat_le 1 (length es) in
     let keys : Bool = list_all is_internal_key (keys_of es) in
     let up : Bool = keys_ascend (keys_of es) in
-    let one = both (some && keys && up) (nat_lt (length (entries_text es)) (2 ^ 32)) h in
-    let two = both (some && keys) up one.0 in
-    let three = both some keys two.0 in
+    let one = and_parts (some && keys && up) (nat_lt (length (entries_text es)) (2 ^ 32)) h in
+    let two = and_parts (some && keys) up one.0 in
+    let three = and_parts some keys two.0 in
     record {
       some = at_most 1 (length es) three.0;
       entries = record { keys = tested_keys (keys_of es) three.1; ascend = tested_ascend (keys_of es) two.1; small = less_than (length (entries_text es)) (2 ^ 32) one.1 };
@@ -218,7 +215,7 @@ block_only bytes es h =
     let found : List Entry = claimed_block bytes in
     elim (block_fits found && bytes_eq bytes (block_text found)) as (λ b. (block_fits found && bytes_eq bytes (block_text found)) ≡ b → cond b (Some found) None ≡ Some es → IsBlockText bytes es) [
       | true ↦ λ is e.
-          let parts = both (block_fits found) (bytes_eq bytes (block_text found)) is in
-          subst (IsBlockText bytes) (some_of found es e) (record { is = equal_texts bytes (block_text found) parts.1; block = tested_block found parts.0 })
+          let parts = and_parts (block_fits found) (bytes_eq bytes (block_text found)) is in
+          subst (IsBlockText bytes) (same_Some found es e) (record { is = equal_texts bytes (block_text found) parts.1; block = tested_block found parts.0 })
       | false ↦ λ is e. cc
     ] refl h

@@ -7,12 +7,11 @@ use Rattle.std.specs.List.{fold, flat_map}
 use Rattle.std.specs.Str.{bytes_eq}
 use Rattle.lsm_bytes.specs.Varint.{varint}
 use Rattle.lsm_names.specs.Sessions.{is_session}
-use Rattle.lsm_names.proofs.PathLemmas.{both}
 use Rattle.lsm_rows.specs.BatchText.{sized}
 use Rattle.lsm_rows.specs.InternalKeys.{user_key}
 use Rattle.lsm_rows.specs.Limits.{key_limit}
 use Rattle.lsm_folder.specs.Batches.{number_ahead, sized_ahead}
-use Rattle.lsm_folder.proofs.NameLemmas.{same_text, equal_texts, some_of, and_true}
+use Rattle.lsm_folder.proofs.NameLemmas.{same_text, equal_texts, and_true}
 use Rattle.lsm_version.specs.declared.tables.TableInfo.{TableInfo}
 use Rattle.lsm_version.specs.declared.tables.Add.{Add}
 use Rattle.lsm_version.specs.declared.tables.Place.{Place}
@@ -23,11 +22,14 @@ use Rattle.lsm_version.specs.declared.fields.Field.TheVariants.{LogNumber, NextN
 use Rattle.lsm_version.specs.EditText.{place_text, rest_text, field_text, fields_of, edit_text}
 use Rattle.lsm_version.specs.Edits.{last_level, last_number, IsFileNumber, IsKey, IsTable, IsPlace, InRange, rank_of, Before, start, AreFields, IsEdit, IsEditText}
 use Rattle.lsm_version.specs.Reading.{with_field}
-use Rattle.lsm_version.proofs.FieldLists.{session_len, fields_make}
+use Rattle.lsm_version.proofs.FieldLists.{fields_make}
 use Rattle.lsm_reading.specs.Keys.{is_internal_key}
 use Rattle.lsm_reading.specs.Edits.{place_ahead, added_ahead, field_ahead, fields_ahead, claimed_edit, number_fits, place_fits, key_fits, table_fits, field_fits, comes_before, fields_fit, edit_of}
 use Rattle.lsm_reading.proofs.AheadLemmas.{number_back, sized_back, at_most, within, less_than, below}
 use Rattle.lsm_reading.proofs.KeyLemmas.{user_is, key_tested, tested_key}
+use Rattle.std.proofs.lemmas.Option.{same_Some}
+use Rattle.std.proofs.lemmas.Bool.{and_parts}
+use Rattle.lsm_names.proofs.SessionLemmas.{length_of_session}
 
 -- ---- fields
 
@@ -78,7 +80,7 @@ field_back (LastSequence n) rest range = ap (λ (r : ℕ × List ℕ). (LastSequ
 field_back (Added add) rest range =
     ap (λ (bytes : List ℕ). added_ahead (place_ahead bytes)) (append_assoc (place_text add.level add.table.number) (rest_text add.table) rest)
     ∙ ap added_ahead (place_back add.level add.table.number (rest_text add.table ++ rest))
-    ∙ added_back add rest (session_len add.table.session range.1.session)
+    ∙ added_back add rest (length_of_session add.table.session range.1.session)
 field_back (Dropped place) rest range = ap (λ (r : Place × List ℕ). (Dropped r.0, r.1)) (place_back place.level place.number rest)
 
 field_some : (field : Field) (rest : List ℕ) → suc (length rest) ≤ length (field_text field ++ rest)
@@ -122,7 +124,7 @@ number_tested n is = and_true _ _ (within 1 n is.some) (within n last_number is.
 
 tested_number : (n : ℕ) → number_fits n ≡ true → IsFileNumber n
 tested_number n h =
-    let parts = both (nat_le 1 n) (nat_le n last_number) h in
+    let parts = and_parts (nat_le 1 n) (nat_le n last_number) h in
     record { some = at_most 1 n parts.0; most = at_most n last_number parts.1 }
 
 place_tested : (level number : ℕ) → IsPlace level number → place_fits level number ≡ true
@@ -130,7 +132,7 @@ place_tested level number is = and_true _ _ (within level last_level is.level_is
 
 tested_place : (level number : ℕ) → place_fits level number ≡ true → IsPlace level number
 tested_place level number h =
-    let parts = both (nat_le level last_level) (number_fits number) h in
+    let parts = and_parts (nat_le level last_level) (number_fits number) h in
     record { level_is = at_most level last_level parts.0; number_is = tested_number number parts.1 }
 
 key_fits_so : (bytes : List ℕ) → IsKey bytes → key_fits bytes ≡ true
@@ -140,7 +142,7 @@ key_fits_so bytes is =
 
 fitting_key : (bytes : List ℕ) → key_fits bytes ≡ true → IsKey bytes
 fitting_key bytes h =
-    let parts = both (is_internal_key bytes) (nat_le (length (user_key bytes)) key_limit) h in
+    let parts = and_parts (is_internal_key bytes) (nat_le (length (user_key bytes)) key_limit) h in
     let key = tested_key bytes parts.0 in
     record {
       key = key.user;
@@ -158,9 +160,9 @@ tested_table : (table : TableInfo) → table_fits table ≡ true → IsTable tab
 tested_table table h =
     let session : Bool = is_session table.session in
     let size : Bool = nat_lt table.size (2 ^ 64) in
-    let one = both (session && size && key_fits table.smallest) (key_fits table.largest) h in
-    let two = both (session && size) (key_fits table.smallest) one.0 in
-    let three = both session size two.0 in
+    let one = and_parts (session && size && key_fits table.smallest) (key_fits table.largest) h in
+    let two = and_parts (session && size) (key_fits table.smallest) one.0 in
+    let three = and_parts session size two.0 in
     record { session = three.0; size = less_than table.size (2 ^ 64) three.1; smallest = fitting_key table.smallest two.1; largest = fitting_key table.largest one.1 }
 
 field_tested : (field : Field) → InRange field → field_fits field ≡ true
@@ -174,9 +176,9 @@ field_tested (Dropped place) is = place_tested place.level place.number is
 tested_field : (field : Field) → field_fits field ≡ true → InRange field
 unfolding field_fits InRange
 tested_field (LogNumber n) h = tested_number n h
-tested_field (NextNumber n) h = let parts = both (nat_le 1 n) (nat_lt n (2 ^ 56)) h in (at_most 1 n parts.0, less_than n (2 ^ 56) parts.1)
+tested_field (NextNumber n) h = let parts = and_parts (nat_le 1 n) (nat_lt n (2 ^ 56)) h in (at_most 1 n parts.0, less_than n (2 ^ 56) parts.1)
 tested_field (LastSequence n) h = less_than n (2 ^ 56) h
-tested_field (Added add) h = let parts = both (place_fits add.level add.table.number) (table_fits add.table) h in (tested_place add.level add.table.number parts.0, tested_table add.table parts.1)
+tested_field (Added add) h = let parts = and_parts (place_fits add.level add.table.number) (table_fits add.table) h in (tested_place add.level add.table.number parts.0, tested_table add.table parts.1)
 tested_field (Dropped place) h = tested_place place.level place.number h
 
 -- ---- their order
@@ -210,14 +212,14 @@ number_after : (a b : Rank) → a.tag ≡ b.tag → (nat_lt a.level b.level ≡ 
 unfolding Before
 number_after a b tag (inl level) = inr (tag, inl (less_than a.level b.level level))
 number_after a b tag (inr h) =
-    let parts = both (a.level == b.level) (nat_lt a.number b.number) h in
+    let parts = and_parts (a.level == b.level) (nat_lt a.number b.number) h in
     inr (tag, inr (number_same a.level b.level parts.0, less_than a.number b.number parts.1))
 
 level_after : (a b : Rank) → (nat_lt a.tag b.tag ≡ true) ⊎ ((a.tag == b.tag && (nat_lt a.level b.level || (a.level == b.level && nat_lt a.number b.number))) ≡ true) → Before a b
 unfolding Before
 level_after a b (inl tag) = inl (less_than a.tag b.tag tag)
 level_after a b (inr h) =
-    let parts = both (a.tag == b.tag) (nat_lt a.level b.level || (a.level == b.level && nat_lt a.number b.number)) h in
+    let parts = and_parts (a.tag == b.tag) (nat_lt a.level b.level || (a.level == b.level && nat_lt a.number b.number)) h in
     number_after a b (number_same a.tag b.tag parts.0) (or_cases (nat_lt a.level b.level) (a.level == b.level && nat_lt a.number b.number) parts.1)
 
 tested_before : (a b : Rank) → comes_before a b ≡ true → Before a b
@@ -234,8 +236,8 @@ pub tested_fields : (after : Rank) (fields : List Field) → fields_fit after fi
 unfolding AreFields
 tested_fields after [] h = tt
 tested_fields after (field ∷ fields) h =
-    let one = both (field_fits field && comes_before after (rank_of field)) (fields_fit (rank_of field) fields) h in
-    let two = both (field_fits field) (comes_before after (rank_of field)) one.0 in
+    let one = and_parts (field_fits field && comes_before after (rank_of field)) (fields_fit (rank_of field) fields) h in
+    let two = and_parts (field_fits field) (comes_before after (rank_of field)) one.0 in
     (record { range = tested_field field two.0; behind = tested_before after (rank_of field) two.1 }, tested_fields (rank_of field) fields one.1)
 
 -- ---- edits
@@ -256,7 +258,7 @@ edit_only text edit h =
     let found : Edit = claimed_edit text in
     elim (fields_fit start (fields_of found) && bytes_eq text (edit_text found)) as (λ b. (fields_fit start (fields_of found) && bytes_eq text (edit_text found)) ≡ b → cond b (Some found) None ≡ Some edit → IsEditText text edit) [
       | true ↦ λ is e.
-          let parts = both (fields_fit start (fields_of found)) (bytes_eq text (edit_text found)) is in
-          subst (IsEditText text) (some_of found edit e) (record { is = equal_texts text (edit_text found) parts.1; edit_is = record { fields = tested_fields start (fields_of found) parts.0 } })
+          let parts = and_parts (fields_fit start (fields_of found)) (bytes_eq text (edit_text found)) is in
+          subst (IsEditText text) (same_Some found edit e) (record { is = equal_texts text (edit_text found) parts.1; edit_is = record { fields = tested_fields start (fields_of found) parts.0 } })
       | false ↦ λ is e. cc
     ] refl h

@@ -7,9 +7,8 @@ use Rattle.std.specs.Str.{bytes_eq}
 use Rattle.lsm_bytes.specs.Varint.{varint}
 use Rattle.lsm_names.specs.declared.file_names.FileName.{FileName}
 use Rattle.lsm_names.specs.declared.file_names.FileName.TheVariants.{Table}
-use Rattle.lsm_names.proofs.PathLemmas.{both}
 use Rattle.lsm_folder.specs.Batches.{number_ahead}
-use Rattle.lsm_folder.proofs.NameLemmas.{equal_texts, some_of}
+use Rattle.lsm_folder.proofs.NameLemmas.{equal_texts}
 use Rattle.lsm_block.specs.declared.entries.Entry.{Entry}
 use Rattle.lsm_table.specs.declared.faults.TableFault.{TableFault}
 use Rattle.lsm_table.specs.declared.faults.TableFault.TheVariants as table
@@ -24,6 +23,8 @@ use Rattle.lsm_reading.specs.Tables.{Told, told_in, with_told, all_told, told_by
 use Rattle.lsm_reading.proofs.AheadLemmas.{less_than}
 use Rattle.lsm_reading.proofs.BlockLemmas.{block_back, block_only}
 use Rattle.lsm_reading.proofs.TableLemmas.{told_back}
+use Rattle.std.proofs.lemmas.Option.{same_Some}
+use Rattle.std.proofs.lemmas.Bool.{and_parts}
 
 -- ---- an index that tells data blocks
 
@@ -35,9 +36,9 @@ tells_so value told h =
     elim (nat_lt place (2 ^ 64) && nat_lt len (2 ^ 64) && bytes_eq value (varint place ++ varint len)) as (λ b. (nat_lt place (2 ^ 64) && nat_lt len (2 ^ 64) && bytes_eq value (varint place ++ varint len)) ≡ b
     → cond b (Some (record { place = place; len = len })) None ≡ Some told → TellsPlace value told.place told.len) [
       | true ↦ λ is e.
-          let one = both (nat_lt place (2 ^ 64) && nat_lt len (2 ^ 64)) (bytes_eq value (varint place ++ varint len)) is in
-          let two = both (nat_lt place (2 ^ 64)) (nat_lt len (2 ^ 64)) one.0 in
-          subst (λ (t : Told). TellsPlace value t.place t.len) (some_of (record { place = place; len = len }) told e)
+          let one = and_parts (nat_lt place (2 ^ 64) && nat_lt len (2 ^ 64)) (bytes_eq value (varint place ++ varint len)) is in
+          let two = and_parts (nat_lt place (2 ^ 64)) (nat_lt len (2 ^ 64)) one.0 in
+          subst (λ (t : Told). TellsPlace value t.place t.len) (same_Some (record { place = place; len = len }) told e)
           (record { text = equal_texts value (varint place ++ varint len) one.1; place_fits = less_than place (2 ^ 64) two.0; len_fits = less_than len (2 ^ 64) two.1 })
       | false ↦ λ is e. cc
     ] refl h

@@ -25,7 +25,7 @@ use Rattle.lsm_folder.specs.Edits as plain_edits
 use Rattle.lsm_folder.specs.Files.{Files, Place, Nothing, Not_a_folder, Stands_with, file_at}
 use Rattle.lsm_folder.specs.Reading as plain
 use Rattle.lsm_folder.proofs.LiveLemmas.{same_entries}
-use Rattle.lsm_folder.proofs.NameLemmas.{equal_texts, some_of}
+use Rattle.lsm_folder.proofs.NameLemmas.{equal_texts}
 use Rattle.lsm_version.specs.declared.edits.Edit.{Edit}
 use Rattle.lsm_version.specs.declared.refusals.ApplyError.{ApplyError}
 use Rattle.lsm_version.specs.EditText.{field_text, fields_of, edit_text}
@@ -42,6 +42,7 @@ use Rattle.lsm_reading.specs.Tables.{TableRead}
 use Rattle.lsm_reading.specs.Reading.{Texts, AllRows, current_of, edits_of, tables_in, texts_behind, texts_in, table_rows, rows_in, read, reading}
 use Rattle.lsm_reading.proofs.EditLemmas.{edit_back, tested_fields}
 use Rattle.lsm_reading.proofs.ManifestLemmas.{with_taken}
+use Rattle.std.proofs.lemmas.Option.{same_Some}
 
 -- ---- a new store's edit
 
@@ -67,7 +68,7 @@ same_edit text edit h =
       | true ↦ λ is e.
           ap edit_of (equal_texts text (plain_edits.edit_text plain_edits.first_edit) is)
           ∙ edit_back (plain_edits.edit_text plain_edits.first_edit) new_edit new_is
-          ∙ ap (λ (x : plain_edits.Edit). Some (as_edit x)) (some_of plain_edits.first_edit edit e)
+          ∙ ap (λ (x : plain_edits.Edit). Some (as_edit x)) (same_Some plain_edits.first_edit edit e)
       | false ↦ λ is e. cc
     ] refl h
 

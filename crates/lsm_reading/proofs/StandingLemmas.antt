@@ -28,6 +28,7 @@ use Rattle.lsm_reading.specs.Parts.{HasParts, AreLawful, rows_of_tables, rows_of
 use Rattle.lsm_reading.specs.Steps.{◌>>=◌}
 use Rattle.lsm_reading.specs.Reading.{Texts, texts_in, rows_in}
 use Rattle.lsm_reading.proofs.AssembledLemmas.{all_below, found_first, found_later, read_tables, texts, texts_are, all_rows, rows_are, assembled}
+use Rattle.lsm_rows.proofs.ReplayedRows.{sequence-is}
 
 -- ---- no two rows have one sequence
 
@@ -51,14 +52,10 @@ unfolding IsDistinct
 apart least [] h = tt
 apart least (x ∷ xs) h = (apart_above x (x + 1) xs (omega arith) h.1, apart (x + 1) xs h.1)
 
-sequence_is : (sequence : ℕ) (op : Op) → (row_of sequence op).sequence ≡ sequence
-sequence_is sequence (Put key value) = refl
-sequence_is sequence (Delete key) = refl
-
 batch_rises : (first : ℕ) (ops : List Op) (rest : List Row) → Rising (first + length ops) (sequences rest) → Rising first (sequences (batch_rows first ops ++ rest))
 batch_rises first [] rest h = sooner first (first + 0) (sequences rest) (omega arith) h
 batch_rises first (op ∷ ops) rest h =
-    let is = sequence_is first op in
+    let is = sequence-is first op in
     let later : Rising (first + 1 + length ops) (sequences rest) = sooner (first + 1 + length ops) (first + length (op ∷ ops)) (sequences rest) (omega arith) h in
     (omega (arith, is), subst (λ (n : ℕ). Rising (n + 1) (sequences (batch_rows (first + 1) ops ++ rest))) (sym is) (batch_rises (first + 1) ops rest later))
 

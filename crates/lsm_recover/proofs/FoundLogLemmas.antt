@@ -18,8 +18,9 @@ use Rattle.lsm_disk.specs.declared.listing.Entry.{Entry}
 use Rattle.lsm_disk.proofs.Paths.{same_path, path_itself, number}
 use Rattle.lsm_disk.proofs.Moves.{under_is}
 use Rattle.lsm_folder.specs.Names.{name_of}
-use Rattle.lsm_folder.proofs.NameLemmas.{some_of, name_only}
+use Rattle.lsm_folder.proofs.NameLemmas.{name_only}
 use Rattle.lsm_recover.specs.Listed.{log_in, log_number, number_by, lesser, next_log}
+use Rattle.std.proofs.lemmas.Option.{same_Some}
 
 abbrev head_or : List ℕ → ℕ
 head_or [] = 0
@@ -66,7 +67,7 @@ module _ (first : ℕ) (more : List ℕ) (least : ℕ) where
   inside_is path rest None u e = cc
   inside_is path rest (Some []) u e = cc
   inside_is path rest (Some (c ∷ tail)) u e =
-      let same : tail ≡ rest = some_of tail rest e in
+      let same : tail ≡ rest = same_Some tail rest e in
       under_is dir path (c ∷ tail) u ∙ ap (λ (b : ℕ). dir ++ b ∷ tail) (slash_is dir path c tail u) ∙ ap (λ (l : List ℕ). dir ++ 47 ∷ l) same
 
   part_is : (o : Option (List ℕ)) (name : List ℕ) → one_part o ≡ Some name → o ≡ Some name
@@ -99,7 +100,7 @@ module _ (first : ℕ) (more : List ℕ) (least : ℕ) where
       let only = name_only name (Log m) names in
       elim (nat_le least m) as (λ b. nat_le least m ≡ b → cond b (Some m) None ≡ Some n → IsOwn path (File_node id) n) [
         | true ↦ λ on h.
-            let same : m ≡ n = some_of m n h in
+            let same : m ≡ n = same_Some m n h in
             let above : least ≤ m = grind (arith, nat_tests) in
             subst (λ (k : ℕ). IsOwn path (File_node id) k) same (record { id = id; live = above; fits = only.fits; path_is = is ∙ ap (λ (l : List ℕ). dir ++ 47 ∷ l) only.is; node_is = refl })
         | false ↦ λ off h. cc
@@ -116,7 +117,7 @@ module _ (first : ℕ) (more : List ℕ) (least : ℕ) where
   either : (o p : Option ℕ) (n : ℕ) → lesser o p ≡ Some n → (o ≡ Some n) ⊎ (p ≡ Some n)
   either None p n e = inr e
   either (Some m) None n e = inl e
-  either (Some m) (Some k) n e = min_either m k n (some_of (min m k) n e) where
+  either (Some m) (Some k) n e = min_either m k n (same_Some (min m k) n e) where
     min_either : (m k n : ℕ) → min m k ≡ n → (Some m ≡ Some n) ⊎ (Some k ≡ Some n)
     min_either m k n is = elim (nat_le m k) as (λ b. nat_le m k ≡ b → (Some m ≡ Some n) ⊎ (Some k ≡ Some n)) [
       | true ↦ λ le.

@@ -1,7 +1,5 @@
-pub mod BatchLemmas
 pub mod CauseLemmas
 pub mod DiskLemmas
-pub mod Entries
 pub mod FolderLogLemmas
 pub mod FoundLogLemmas
 pub mod ListLemmas

@@ -10,8 +10,9 @@ use Rattle.lsm_names.specs.FileNames.{spelled, IsFileName, is_file_number}
 use Rattle.lsm_names.proofs.FileNameLemmas.{spelled_is_short}
 use Rattle.lsm_folder.specs.Names.{name_of, current_text, manifest_in}
 use Rattle.lsm_folder.proofs.NameLemmas.{name_again, name_only}
-use Rattle.lsm_folder.proofs.PlainLemmas.{drop_here, drop_end, no_manifest}
+use Rattle.lsm_folder.proofs.PlainLemmas.{no_manifest}
 use Rattle.lsm_recover.specs.Listed.{log_in, lesser, next_log}
+use Rattle.lsm_rows.proofs.Lists.{drop_here, drop_end}
 
 min_both : (a b c : ℕ) → min (min a b) c ≡ min a (min b c)
 min_both a b c = omega arith

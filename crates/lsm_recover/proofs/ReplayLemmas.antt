@@ -29,6 +29,7 @@ use Rattle.lsm_recover.specs.declared.errors.FolderError.TheVariants.{DiskFault,
 use Rattle.lsm_recover.specs.Answers.{IsRefusedBy}
 use Rattle.lsm_recover.specs.Causes.{wal_error}
 use Rattle.lsm_recover.specs.Found.{Replays, IsReplayed}
+use Rattle.lsm_rows.proofs.Replaying.{sequence_next, sequence_both, replayed_both}
 
 -- where one reading's refusals are another one's
 pub refused_too : {A B : Type 0} (one : Result A Refusal) (two : Result B Refusal) → ((r : Refusal) → one ≡ Err r → two ≡ Err r) → (error : FolderError) → IsRefusedBy one error → IsRefusedBy two error
@@ -62,20 +63,6 @@ none_before (Ok batches) = refl
 before_both : (one two : List (List Op)) (rest : Result (List (List Op)) Refusal) → before_batches one (before_batches two rest) ≡ before_batches (one ++ two) rest
 before_both one two (Err refusal) = refl
 before_both one two (Ok more) = ap Ok (sym (append_assoc one two more))
-
-sequence_next : (first : ℕ) (batches : List (List Op)) → sequence_after (first + 1) batches ≡ sequence_after first batches + 1
-sequence_next first [] = refl
-sequence_next first (ops ∷ batches) =
-    let moved : first + 1 + length ops ≡ first + length ops + 1 = omega arith in
-    ap (λ (n : ℕ). sequence_after n batches) moved ∙ sequence_next (first + length ops) batches
-
-sequence_both : (first : ℕ) (one two : List (List Op)) → sequence_after (sequence_after first one) two ≡ sequence_after first (one ++ two)
-sequence_both first [] two = refl
-sequence_both first (ops ∷ one) two = sequence_both (first + length ops) one two
-
-replayed_both : (m : Contents) (one two : List (List Op)) → replayed (replayed m one) two ≡ replayed m (one ++ two)
-replayed_both m [] two = refl
-replayed_both m (ops ∷ one) two = replayed_both (fold applied m ops) one two
 
 pub replay_begun : (first : ℕ) (logs : List (ℕ × LogText)) (contents : Contents) → first < 2 ^ 56 → Replays first (all_batches (first + 1) logs) (λ (next : ℕ). all_batches next logs) contents contents first
 replay_begun first logs contents small = record { more = []; is = none_before (all_batches (first + 1) logs); contents_are = refl; last_is = refl; small = small }

@@ -1,6 +1,5 @@
 pub mod Answers
 pub mod Causes
-pub mod Contents
 pub mod Found
 pub mod Listed
 pub mod Shown

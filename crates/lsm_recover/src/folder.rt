@@ -5,7 +5,6 @@ ghost use Rattle.lsm_recover.specs.Answers.{place_now};
 ghost use Rattle.lsm_recover.specs.Causes.{HasFolderCause};
 ghost use Rattle.lsm_recover.specs.Shown.{AnswersShown};
 
-use crate::contents::Pairs;
 use crate::current::read_current;
 use crate::errors::FolderError;
 use crate::logs::read_logs;
@@ -13,6 +12,7 @@ use crate::manifest::read_manifest;
 use crate::opening::list_folder;
 use lsm_disk::Disk;
 use lsm_names::Path;
+use lsm_rows::Pairs;
 use std::alloc::Global;
 
 /// What a folder stands for.

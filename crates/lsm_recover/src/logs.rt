@@ -13,13 +13,13 @@ ghost use Rattle.lsm_rows.specs.Replay.{replayed};
 ghost use Rattle.lsm_recover.specs.Found.{AnswersReplay, AnswersLog, IsNotTaken, hindering};
 ghost use Rattle.lsm_recover.specs.Listed.{IsListing};
 
-use crate::contents::Pairs;
 use crate::errors::{FolderError, error_by};
 use crate::listed::next_log;
 use crate::opening::{file_path, open_whole};
 use lsm_disk::{Disk, Entry};
 use lsm_folder::Version;
 use lsm_names::{FileName, Path};
+use lsm_rows::Pairs;
 use lsm_wal::{Batches, WalWhy, read_wal};
 use std::alloc::Global;
 

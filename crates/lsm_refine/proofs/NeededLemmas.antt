@@ -1,5 +1,5 @@
 -- A change that spares the needed files keeps what a running store has of them.
-use Rattle.std.specs.Prelude.{◌≡◌, ◌≢◌, ℕ, ◌≤◌, is_some, List, [], ◌∷◌, take, drop, All, Option, Some, None}
+use Rattle.std.specs.Prelude.{◌≡◌, ◌≢◌, ℕ, ◌≤◌, is_some, List, [], ◌∷◌, ◌++◌, take, drop, All, Option, Some, None}
 use Rattle.std.proofs.Common.{refl, sym, ap, ◌∙◌}
 use Rattle.std.proofs.lemmas.List.{append_cancel_left}
 use Rattle.std.proofs.lemmas.List.Elements.{All-nil, All-head, All-tail}
@@ -22,9 +22,11 @@ use Rattle.lsm_disk.proofs.Named.{name_spared}
 use Rattle.lsm_wal.specs.Batches.{Logged}
 use Rattle.lsm_wal.specs.Standing.{IsWal}
 use Rattle.lsm_version.specs.declared.edits.Edit.{Edit}
+use Rattle.lsm_model.specs.Halting.{built_in}
 use Rattle.lsm_refine.specs.Kept.{Kept}
 use Rattle.lsm_refine.specs.Parts.{LogPart}
-use Rattle.lsm_refine.specs.Sane.{IsWholeFile, IsAlone, IsCurrent, HasEdits, HasTables, AreSynced, IsNeeded, IsQuiet, AreKnown, SparesNeeded, IsOlder, KeepsNames}
+use Rattle.lsm_refine.specs.Pins.{AreClearable}
+use Rattle.lsm_refine.specs.Sane.{IsWholeFile, IsAlone, IsCurrent, HasEdits, HasTables, AreSynced, IsNeeded, IsQuiet, AreKnown, AreFiles, SparesNeeded, IsOlder, KeepsNames}
 
 module _ (d : State) (dir : List ℕ) (kept : Kept) (last : ℕ) (c : Change) (spares : SparesNeeded d dir kept last c) where
   kept_still : (name : FileName) (id : ℕ) (file : FileState) → IsFileName name → IsNeeded kept name → name ≢ Log last → IsKeptFile d (path_in dir name) id file → IsKeptFile (after d c) (path_in dir name) id file
@@ -60,9 +62,7 @@ module _ (d : State) (dir : List ℕ) (kept : Kept) (last : ℕ) (c : Change) (s
           file = whole_still (Table number) table.bytes table.numbered (ap is_some found) (λ same. cc) table.file;
           table = table.table;
           size = table.size;
-          view = table.view;
           viewed = table.viewed;
-          told = table.told;
         };
   }
 
@@ -129,15 +129,37 @@ known_stay d dir kept (Synced id) keeps are = record { there = are.there; all = 
 known_stay d dir kept Names_synced keeps are = record { there = are.there; all = are.all }
 known_stay d dir kept Idle keeps are = are
 
+-- the name of each path after a sync of names is one of before
+names_are : (d : State) (other : List ℕ) (k : ℕ) → finmap.get (all_named (take (reads_image d).kept d.pending) d.durable) other ≡ finmap.get (all_named (take k []) (names_now d)) other
+names_are d other k =
+    ap (λ (names : Names). finmap.get names other) (sym (reads_image d).names)
+    ∙ ap (λ (ops : List NameOp). finmap.get (all_named ops (names_now d)) other) (sym (take_none k))
+
+pub files_stay : (d : State) (dir : List ℕ) (c : Change) → KeepsNames c → AreFiles d dir → AreFiles (after d c) dir
+files_stay d dir (Created path) keeps are = absurd keeps
+files_stay d dir (Named op) keeps are = absurd keeps
+files_stay d dir (Appended id more) keeps are = record { no_folder = are.no_folder }
+files_stay d dir (Synced id) keeps are = record { no_folder = are.no_folder }
+files_stay d dir Names_synced keeps are = record {
+  no_folder = λ name k fits is. are.no_folder name (reads_image d).kept fits (names_are d (path_in dir name) k ∙ is);
+}
+files_stay d dir Idle keeps are = are
+
+pub clear_stays : (d : State) (c : Change) → KeepsNames c → AreClearable d → AreClearable (after d c)
+clear_stays d (Created path) keeps are = absurd keeps
+clear_stays d (Named op) keeps are = absurd keeps
+clear_stays d (Appended id more) keeps are = record { no_file = are.no_file; no_folder = are.no_folder }
+clear_stays d (Synced id) keeps are = record { no_file = are.no_file; no_folder = are.no_folder }
+clear_stays d Names_synced keeps are = record {
+  no_file = λ dir k id named is. are.no_file dir (reads_image d).kept id named (names_are d (built_in dir) k ∙ is);
+  no_folder = λ dir rest k named is. are.no_folder dir rest (reads_image d).kept named (names_are d (built_in dir ++ 47 ∷ rest) k ∙ is);
+}
+clear_stays d Idle keeps are = are
+
 pub alone_stays : (d : State) (path : List ℕ) (c : Change) → KeepsNames c → IsAlone d path → IsAlone (after d c) path
 alone_stays d path (Created other) keeps is = absurd keeps
 alone_stays d path (Named op) keeps is = absurd keeps
 alone_stays d path (Appended id more) keeps is = record { only = is.only }
 alone_stays d path (Synced id) keeps is = record { only = is.only }
-alone_stays d path Names_synced keeps is = record { only = λ id k other at leads. is.only id (reads_image d).kept other at (names_are other k ∙ leads) }
-  where
-    names_are : (other : List ℕ) (k : ℕ) → finmap.get (all_named (take (reads_image d).kept d.pending) d.durable) other ≡ finmap.get (all_named (take k []) (names_now d)) other
-    names_are other k =
-        ap (λ (names : Names). finmap.get names other) (sym (reads_image d).names)
-        ∙ ap (λ (ops : List NameOp). finmap.get (all_named ops (names_now d)) other) (sym (take_none k))
+alone_stays d path Names_synced keeps is = record { only = λ id k other at leads. is.only id (reads_image d).kept other at (names_are d other k ∙ leads) }
 alone_stays d path Idle keeps is = is

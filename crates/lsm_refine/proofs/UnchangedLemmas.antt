@@ -8,11 +8,12 @@ use Rattle.lsm_disk.specs.declared.calls.Halt.{Halt}
 use Rattle.lsm_model.specs.declared.states.State.{State}
 use Rattle.lsm_model.specs.declared.states.Pin.{Pin}
 use Rattle.lsm_refine.specs.Kept.{KeptPin, Shown}
-use Rattle.lsm_refine.specs.Pins.{ArePins, IsKeptPin, Pinned}
+use Rattle.lsm_refine.specs.Pins.{ArePins, AreClearable, IsKeptPin, Pinned}
 use Rattle.lsm_refine.specs.Folders.{StandsFor, StandsFrom, FoldersRead}
 use Rattle.lsm_refine.specs.Good.{ShowsAccepted, IsRunning, IsHalted, IsInMode, KeptIs, Good, IsUnchanged, with_counts, stopped}
 use Rattle.lsm_refine.proofs.GoodLemmas.{running_now, running_image}
 use Rattle.lsm_refine.proofs.ShownLemmas.{running_shows}
+use Rattle.lsm_refine.proofs.ViewLemmas.{viewed_good}
 
 -- ---- pins, one by one
 
@@ -39,6 +40,7 @@ module _ (seen : Seen) (halt : Option Halt) (s : State) where
     number = is.number;
     sequence = is.sequence;
     files = is.files;
+    manifest = is.manifest;
     holder = is.holder;
     within = is.within;
     stands = is.stands;
@@ -63,8 +65,13 @@ module _ (seen : Seen) (halt : Option Halt) (s : State) where
       works = record {
         active = is.works.active;
         frozen = is.works.frozen;
+        log_len = is.works.log_len;
+        older_len = is.works.older_len;
+        active_len = is.works.active_len;
+        frozen_len = is.works.frozen_len;
         tables = is.works.tables;
         merging = is.works.merging;
+        outputs = is.works.outputs;
         next = is.works.next;
         manifest_len = is.works.manifest_len;
       };
@@ -134,6 +141,8 @@ module _ (v : Shown) (s : State) (good : Good v s) (seen : Seen) (halt : Option 
         (pinned seen halt s d v (subst (λ (e : disk.State). Pinned e v.dir v.kept.pins s) (sym was) good.pinned));
     folders = subst (λ (e : disk.State). FoldersRead e (record (with_counts seen s) { halt = halt })) (sym now)
         (folders seen halt s d v (subst (λ (e : disk.State). FoldersRead e s) (sym was) good.folders));
+    clear = subst AreClearable (sym now) (subst AreClearable (sym was) good.clear);
+    counted = record { durable = good.counted.durable; numbers = good.counted.numbers; fronts = good.counted.fronts };
     kept = kept_is seen halt s d v good.kept;
     counts = record { faults = refl; refusals = refl };
   }
@@ -142,14 +151,20 @@ module _ (v : Shown) (s : State) (good : Good v s) (seen : Seen) (halt : Option 
 same_shown : (v w : Shown) (halt : Option Halt) → w.dir ≡ v.dir → w.kept ≡ v.kept → w.halt ≡ halt → record v { disk = w.disk; halt = halt } ≡ w
 same_shown v w halt dir kept halts = λ j. record { disk = w.disk; dir = sym dir j; kept = sym kept j; halt = sym halts j }
 
+-- the store with the views of another
+abbrev other_views : Shown → Shown → Shown
+other_views v w = record v { kept = record v.kept { views = w.kept.views } }
+
 pub unchanged_good : (v w : Shown) (s : State) (good : Good v s) → IsUnchanged good.story v w → w.halt ≡ v.halt → Good w (with_counts w.disk s)
 unchanged_good v w s good is same =
-    let goes = at_state v s good w.disk v.halt is.later is.told (state_of good.story) refl is.state (in_mode w.disk v.halt s (state_of good.story) v good.mode) in
-    subst (λ (x : Shown). Good x (with_counts w.disk s)) (same_shown v w v.halt is.dir is.kept same)
-    (subst (λ (h : Option Halt). Good (record v { disk = w.disk; halt = v.halt }) (record (with_counts w.disk s) { halt = h })) good.kept.halt goes)
+    let views = viewed_good v s good w.kept.views is.views in
+    let goes = at_state (other_views v w) s views w.disk v.halt is.later is.told (state_of good.story) refl is.state (in_mode w.disk v.halt s (state_of good.story) (other_views v w) views.mode) in
+    subst (λ (x : Shown). Good x (with_counts w.disk s)) (same_shown (other_views v w) w v.halt is.dir is.kept same)
+    (subst (λ (h : Option Halt). Good (record (other_views v w) { disk = w.disk; halt = v.halt }) (record (with_counts w.disk s) { halt = h })) good.kept.halt goes)
 
 pub halted_good : (v w : Shown) (s : State) (first : Halt) (good : Good v s) → IsUnchanged good.story v w → v.halt ≡ None → w.halt ≡ Some first → Good w (stopped first (with_counts w.disk s))
 halted_good v w s first good is none same =
-    let mode = halts w.disk (Some first) s (state_of good.story) v good.kept.own (subst (λ (h : Option Halt). IsInMode h (state_of good.story) v s) none good.mode) in
-    subst (λ (x : Shown). Good x (stopped first (with_counts w.disk s))) (same_shown v w (Some first) is.dir is.kept same)
-    (at_state v s good w.disk (Some first) is.later is.told (state_of good.story) refl is.state mode)
+    let views = viewed_good v s good w.kept.views is.views in
+    let mode = halts w.disk (Some first) s (state_of good.story) (other_views v w) good.kept.own (subst (λ (h : Option Halt). IsInMode h (state_of good.story) (other_views v w) s) none views.mode) in
+    subst (λ (x : Shown). Good x (stopped first (with_counts w.disk s))) (same_shown (other_views v w) w (Some first) is.dir is.kept same)
+    (at_state (other_views v w) s views w.disk (Some first) is.later is.told (state_of good.story) refl is.state mode)

@@ -1,14 +1,17 @@
 -- When a store is good for a state of the abstract store.
-use Rattle.std.specs.Prelude.{◌≡◌, ℕ, ◌+◌, ◌-◌, ◌<◌, List, ◌++◌, take, length, All, Option, Some, None}
+use Rattle.std.specs.Prelude.{◌≡◌, ◌⊎◌, ℕ, ◌+◌, ◌-◌, ◌<◌, List, ◌++◌, take, length, All, Option, Some, None}
 use Rattle.std.specs.Option.{option_map}
+use Rattle.std.specs.Ordering.{nat_cmp}
 use Rattle.std.specs.FinMap as finmap
 use Rattle.lsm_rows.specs.declared.rows.Row.{Row}
 use Rattle.lsm_rows.specs.Replay.{sequence_after}
 use Rattle.lsm_rows.specs.Contents.{contents_of}
 use Rattle.lsm_disk.specs.State as disk
 use Rattle.lsm_disk.specs.State.{Seen, Story, state_of}
-use Rattle.lsm_disk.specs.Images.{Tree, IsImage, tree_now}
-use Rattle.lsm_disk.specs.Dest.{Begun}
+use Rattle.lsm_names.specs.declared.file_names.FileName.TheVariants.{Table}
+use Rattle.lsm_disk.specs.Images.{Tree, IsImage, bytes_at, tree_now}
+use Rattle.lsm_disk.specs.Viewed.{Viewed}
+use Rattle.lsm_disk.specs.Dest.{Begun, path_in}
 use Rattle.lsm_disk.specs.declared.calls.Halt.{Halt}
 use Rattle.lsm_version.specs.declared.tables.Placed.{Placed}
 use Rattle.lsm_version.specs.Levels.{IsLeveled}
@@ -18,12 +21,13 @@ use Rattle.lsm_model.specs.declared.events.Event.{Event}
 use Rattle.lsm_model.specs.declared.replies.Reply.{Reply}
 use Rattle.lsm_model.specs.declared.states.State.{State}
 use Rattle.lsm_model.specs.States.{contents_now, last_of, active_batches}
+use Rattle.lsm_model.specs.Counts.{IsCounted}
 use Rattle.lsm_model.specs.Steps.{Run}
 use Rattle.lsm_refine.specs.Kept.{Kept, Shown}
 use Rattle.lsm_refine.specs.Parts.{Parts, AreRowsOf}
 use Rattle.lsm_refine.specs.Sane.{Sane, HasTables}
 use Rattle.lsm_refine.specs.Tied.{Tied, WorksAs}
-use Rattle.lsm_refine.specs.Pins.{Pinned, JobsBuild}
+use Rattle.lsm_refine.specs.Pins.{AreClearable, Pinned, JobsBuild}
 use Rattle.lsm_refine.specs.Folders.{StandsFrom, FoldersRead}
 
 -- ---- by mode
@@ -91,13 +95,16 @@ pub record CountsAre (v : Shown) (s : State) : Type 0 where
   pub refusals : v.disk.refusals ≡ s.refusals
 
 -- A store is good for a state: its disk tells a story, and what the store keeps and what its disk has now and after each
--- crash is as the state says. Of a disk that doesn't tell nothing is so.
+-- crash is as the state says; the state's counts go with its lists; and a checkpoint may be built. Of a disk that doesn't tell
+-- nothing is so.
 pub record Good (v : Shown) (s : State) : Type 0 where
   pub story : Story
   pub told : v.disk.told ≡ Some story
   pub mode : IsInMode v.halt (state_of story) v s
   pub pinned : Pinned (state_of story) v.dir v.kept.pins s
   pub folders : FoldersRead (state_of story) s
+  pub clear : AreClearable (state_of story)
+  pub counted : IsCounted s
   pub kept : KeptIs v s
   pub counts : CountsAre v s
 
@@ -110,13 +117,19 @@ pub record Leads (start : State) (steps : List (Event × Reply)) (v : Shown) : T
 
 -- ---- where nothing happened
 
--- nothing has changed but the disk's counts and its clock, and perhaps the halting call
+-- each view of a table is one that was kept before, or tells what the file has
+abbrev pub ViewsTell : disk.State → Shown → finmap.FinMap nat_cmp Viewed → Type 0
+ViewsTell d v views = (number : ℕ) (view : Viewed) → finmap.get views number ≡ Some view
+    → (finmap.get v.kept.views number ≡ Some view) ⊎ (view.bytes ≡ bytes_at (tree_now d) (path_in v.dir (Table number)))
+
+-- nothing has changed but the disk's counts and its clock, the views that are open, and perhaps the halting call
 pub record IsUnchanged (story : Story) (v w : Shown) : Type 0 where
   pub later : Story
   pub told : w.disk.told ≡ Some later
   pub state : state_of later ≡ state_of story
   pub dir : w.dir ≡ v.dir
-  pub kept : w.kept ≡ v.kept
+  pub kept : w.kept ≡ record v.kept { views = w.kept.views }
+  pub views : ViewsTell (state_of story) v w.kept.views
 
 -- the state with a disk's counts
 abbrev pub with_counts : Seen → State → State

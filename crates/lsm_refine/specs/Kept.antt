@@ -1,5 +1,5 @@
 -- What contracts see of a store: what is seen of its disk, its folder, what it keeps of itself, and the call that halted it.
-use Rattle.std.specs.Prelude.{ℕ, List, Option}
+use Rattle.std.specs.Prelude.{ℕ, Bool, List, Option}
 use Rattle.std.specs.Ordering.{nat_cmp}
 use Rattle.std.specs.FinMap as finmap
 use Rattle.lsm_names.specs.declared.file_names.FileName.{FileName}
@@ -11,11 +11,12 @@ use Rattle.lsm_disk.specs.declared.calls.Halt.{Halt}
 use Rattle.lsm_version.specs.declared.tables.Place.{Place}
 use Rattle.lsm_version.specs.Levels.{Tables}
 
--- A checkpoint under way: the folder that it builds, how many of its pin's files aren't whole there, and how many bytes of
--- the first of these were copied.
+-- A checkpoint under way: the folder that it builds, how many of its pin's files aren't whole there, whether the first of
+-- these was made, and how many of its bytes were copied.
 pub record Job : Type 0 where
   pub dir : List ℕ
   pub left : ℕ
+  pub made : Bool
   pub copied : ℕ
 
 -- a pin: its number, its last sequence, the manifest that its CURRENT names, its files with how many of their bytes are the
@@ -40,12 +41,14 @@ pub record Kept : Type 0 where
   pub views : finmap.FinMap nat_cmp Viewed
   pub log : ℕ
   pub last : ℕ
-  -- the last sequence that an operation has, the rows in memory, in the order of their internal keys, and the numbers of the
-  -- live logs
+  -- the last sequence that an operation has, the rows in memory, in the order of their internal keys, the numbers of the live
+  -- logs, and how many bytes the last one of them has and the older ones
   pub sequence : ℕ
   pub active : List Row
   pub frozen : List Row
   pub logs : List ℕ
+  pub log_len : ℕ
+  pub older_len : ℕ
   -- the manifest's number and its length in bytes, and the next file number
   pub manifest : ℕ
   pub manifest_len : ℕ
@@ -56,10 +59,11 @@ pub record Kept : Type 0 where
   pub pins : List KeptPin
   pub greatest_pin : ℕ
   pub disables : ℕ
-  -- what is under way: the tables that are written, the inputs of the compaction, and the folder that a restore builds, with
-  -- the file in hand
+  -- what is under way: the tables that are written, the inputs of the compaction, how many tables it has begun, and the
+  -- folder that a restore builds, with the file in hand
   pub unfinished : List Unfinished
   pub merging : Option (List Place)
+  pub outputs : ℕ
   pub begun : Option Begun
   pub hand : Option FileName
 

@@ -3,6 +3,8 @@ pub mod Folders
 pub mod Fronts
 pub mod Good
 pub mod Kept
+pub mod Listing
+pub mod Moments
 pub mod New
 pub mod Parts
 pub mod Pins

@@ -1,13 +1,16 @@
--- A new store, as an opening leaves it where no store was.
-use Rattle.std.specs.Prelude.{◌≡◌, ℕ, true, List, [], ◌∷◌, length, All, Some, None}
+-- A new store, as an opening leaves it where no store was. Files of an opening that a crash cut off may stand beside.
+use Rattle.std.specs.Prelude.{◌≡◌, ◌≢◌, ℕ, ◌+◌, ◌^◌, ◌<◌, ◌≤◌, max, true, List, [], ◌∷◌, ◌++◌, length, All, Some, None}
 use Rattle.std.specs.FinMap as finmap
 use Rattle.lsm_names.specs.Folders.{is_folder_name}
-use Rattle.lsm_names.specs.declared.file_names.FileName.TheVariants.{Log, Manifest, Current}
+use Rattle.lsm_names.specs.FileNames.{IsFileName, spelled}
+use Rattle.lsm_names.specs.declared.file_names.FileName.{FileName}
+use Rattle.lsm_names.specs.declared.file_names.FileName.TheVariants.{Log, Table, Manifest, Temp, Current}
 use Rattle.lsm_disk.specs.Names.{Folder_node, File_node}
 use Rattle.lsm_disk.specs.State as disk
 use Rattle.lsm_disk.specs.State.{Seen, new_file}
 use Rattle.lsm_disk.specs.Dest.{path_in}
-use Rattle.lsm_disk.specs.Building.{Part, IsBuilt, names_of, sealed}
+use Rattle.lsm_disk.specs.Kept.{IsKeptName}
+use Rattle.lsm_disk.specs.Building.{Part, IsKeptPart, names_of, sealed}
 use Rattle.lsm_folder.specs.Names.{current_text}
 use Rattle.lsm_version.specs.declared.edits.Edit.{Edit}
 use Rattle.lsm_version.specs.Versions.{empty_version}
@@ -17,63 +20,106 @@ use Rattle.lsm_model.specs.declared.states.FolderRead.{FolderRead}
 use Rattle.lsm_model.specs.Plain.{empty_state}
 use Rattle.lsm_refine.specs.Kept.{Kept, Shown}
 use Rattle.lsm_refine.specs.Sane.{IsAlone}
+use Rattle.lsm_refine.specs.Pins.{AreClearable}
 
--- the first edit: logs are needed from number 2 on, number 3 comes next, and no sequence and no table is there
-abbrev pub first_edit : Edit
-first_edit = record { log = Some 2; next = Some 3; last = Some 0; adds = []; drops = [] }
+-- the number in a file's name, 0 where there is none
+abbrev pub number_in : FileName → ℕ
+number_in (Log number) = number
+number_in (Table number) = number
+number_in (Manifest number) = number
+number_in (Temp number) = number
+number_in Current = 0
 
-abbrev pub first_manifest : List ℕ
-first_manifest = manifest_text (first_edit ∷ [])
+-- the next number of a folder with these names: one past the greatest in them, and 1 where there is none
+abbrev pub next_number : List FileName → ℕ
+next_number [] = 1
+next_number (name ∷ names) = max (number_in name + 1) (next_number names)
+
+-- The first edit, where the manifest has this number: logs are needed from the next number on, the one behind it comes next,
+-- and no sequence and no table is there.
+abbrev pub first_edit : ℕ → Edit
+first_edit m = record { log = Some (m + 1); next = Some (m + 2); last = Some 0; adds = []; drops = [] }
+
+abbrev pub first_manifest : ℕ → List ℕ
+first_manifest m = manifest_text (first_edit m ∷ [])
 
 -- its files: CURRENT, the manifest of that edit, and an empty log
-abbrev pub new_files : List Part
-new_files =
-    (record { name = Current; bytes = current_text 1 })
-    ∷ (record { name = Manifest 1; bytes = first_manifest })
-    ∷ (record { name = Log 2; bytes = [] })
+abbrev pub new_files : ℕ → List Part
+new_files m =
+    (record { name = Current; bytes = current_text m })
+    ∷ (record { name = Manifest m; bytes = first_manifest m })
+    ∷ (record { name = Log (m + 1); bytes = [] })
     ∷ []
 
--- The disk has a new store's folder: these files and nothing else, now and after each crash; all names are synced; and the
--- files that are appended to have no other name.
-pub record HasNewStore (d : disk.State) (dir : List ℕ) : Type 0 where
+-- the names of its files, and those of the files beside
+abbrev pub new_names : ℕ → List FileName → List FileName
+new_names m beside = names_of (new_files m) ++ beside
+
+-- an earlier opening's file: it has a number, which comes before the manifest's
+abbrev pub IsLeftover : ℕ → FileName → Type 0
+IsLeftover m Current = ⊥
+IsLeftover m (Log number) = IsFileName (Log number) × (number < m)
+IsLeftover m (Table number) = IsFileName (Table number) × (number < m)
+IsLeftover m (Manifest number) = IsFileName (Manifest number) × (number < m)
+IsLeftover m (Temp number) = IsFileName (Temp number) × (number < m)
+
+-- a file of some bytes stands under the name for good
+pub record IsThere (d : disk.State) (dir : List ℕ) (name : FileName) : Type 0 where
+  pub id : ℕ
+  pub named : IsKeptName d (path_in dir name) (Some (File_node id))
+
+-- The disk has a new store's folder, with a manifest of this number: its files, those beside, and nothing else, now and after
+-- each crash; all names are synced; the files that are appended to have no other name; and a checkpoint may be built. Where
+-- the number is the folder's next one, an opening has drawn it, and each file from before has a lower one.
+pub record HasNewStore (d : disk.State) (dir : List ℕ) (m : ℕ) (beside : List FileName) : Type 0 where
   pub named : is_folder_name dir ≡ true
+  pub least : 1 ≤ m
+  pub most : m + 2 < 2 ^ 56
+  pub earlier : All (IsLeftover m) beside
   pub settled : d.pending ≡ []
-  pub built : IsBuilt dir new_files d
-  pub alone : All (IsAlone d) (path_in dir (Manifest 1) ∷ path_in dir (Log 2) ∷ [])
+  pub stands : IsKeptName d dir (Some Folder_node)
+  pub each : All (IsKeptPart dir d) (new_files m)
+  pub there : All (IsThere d dir) beside
+  pub only : (rest : List ℕ) → All (λ (name : FileName). rest ≢ spelled name) (new_names m beside) → IsKeptName d (dir ++ 47 ∷ rest) None
+  pub alone : All (IsAlone d) (path_in dir (Manifest m) ∷ path_in dir (Log (m + 1)) ∷ [])
+  pub clear : AreClearable d
 
 -- what a new store keeps: no table, no row, one log and no pin
-abbrev pub new_kept : Kept
-new_kept = record {
+abbrev pub new_kept : ℕ → List FileName → Kept
+new_kept m beside = record {
   version = empty_version;
   views = finmap.empty;
-  log = 2;
+  log = m + 1;
   last = 0;
   sequence = 0;
   active = [];
   frozen = [];
-  logs = 2 ∷ [];
-  manifest = 1;
-  manifest_len = length first_manifest;
-  next = 3;
-  known = names_of new_files;
+  logs = (m + 1) ∷ [];
+  log_len = 0;
+  older_len = 0;
+  manifest = m;
+  manifest_len = length (first_manifest m);
+  next = m + 2;
+  known = new_names m beside;
   pins = [];
   greatest_pin = 0;
   disables = 0;
   unfinished = [];
   merging = None;
+  outputs = 0;
   begun = None;
   hand = None;
 }
 
-abbrev pub new_store : Seen → List ℕ → Shown
-new_store seen dir = record { disk = seen; dir = dir; kept = new_kept; halt = None }
+abbrev pub new_store : Seen → List ℕ → ℕ → List FileName → Shown
+new_store seen dir m beside = record { disk = seen; dir = dir; kept = new_kept m beside; halt = None }
 
 -- the state of an empty store with these other folders
-abbrev pub new_state : Seen → List ℕ → List FolderRead → State
-new_state seen dir folders = record (empty_state dir) {
+abbrev pub new_state : Seen → List ℕ → ℕ → List FolderRead → State
+new_state seen dir m folders = record (empty_state dir) {
   folders = folders;
-  next = 3;
-  manifest_len = length first_manifest;
+  next = m + 2;
+  manifest_len = length (first_manifest m);
   faults = seen.faults;
   refusals = seen.refusals;
 }
@@ -83,6 +129,6 @@ abbrev pub new_disk : List ℕ → disk.State
 new_disk dir = record {
   durable = finmap.from_entries ((dir, Folder_node) ∷ (path_in dir Current, File_node 0) ∷ (path_in dir (Manifest 1), File_node 1) ∷ (path_in dir (Log 2), File_node 2) ∷ []);
   pending = [];
-  files = sealed (current_text 1) ∷ sealed first_manifest ∷ new_file ∷ [];
+  files = sealed (current_text 1) ∷ sealed (first_manifest 1) ∷ new_file ∷ [];
   links = true;
 }

@@ -1,12 +1,13 @@
 -- Pins and checkpoints of a state, and what a store keeps of them and has on its disk.
-use Rattle.std.specs.Prelude.{◌≡◌, ◌⊎◌, ℕ, ◌-◌, ◌≤◌, ◌<◌, min, true, is_some, List, [], ◌∷◌, ◌++◌, map, take, drop, length, codes, All, Contains, Option, Some, None}
+use Rattle.std.specs.Prelude.{◌≡◌, ◌≢◌, ◌⊎◌, ℕ, ◌-◌, ◌≤◌, ◌<◌, Bool, true, false, is_some, List, [], ◌∷◌, ◌++◌, map, take, drop, length, All, Contains, Option, Some, None}
 use Rattle.std.specs.List.{flat_map, IsDistinct}
 use Rattle.std.specs.Str.{bytes_eq}
 use Rattle.std.specs.FinMap as finmap
+use Rattle.lsm_names.specs.Folders.{is_folder_name}
 use Rattle.lsm_names.specs.FileNames.{IsFileName}
 use Rattle.lsm_names.specs.declared.file_names.FileName.{FileName}
 use Rattle.lsm_names.specs.declared.file_names.FileName.TheVariants.{Current}
-use Rattle.lsm_disk.specs.Names.{Folder_node}
+use Rattle.lsm_disk.specs.Names.{Folder_node, File_node, all_named}
 use Rattle.lsm_disk.specs.State as disk
 use Rattle.lsm_disk.specs.State.{names_now, file_at}
 use Rattle.lsm_disk.specs.Images.{bytes_at, tree_now}
@@ -20,7 +21,9 @@ use Rattle.lsm_model.specs.declared.states.PinnedFile.{PinnedFile}
 use Rattle.lsm_model.specs.declared.states.Holder.{Holder}
 use Rattle.lsm_model.specs.declared.states.Holder.TheVariants.{Caller, Checkpoint}
 use Rattle.lsm_model.specs.States.{shown_at}
-use Rattle.lsm_model.specs.Pins.{held}
+use Rattle.lsm_model.specs.Halting.{built_in}
+use Rattle.lsm_model.specs.Pins.{listed, held}
+use Rattle.lsm_model.specs.declared.cuts.Cut.{Cut}
 use Rattle.lsm_refine.specs.Kept.{Job, KeptPin}
 use Rattle.lsm_refine.specs.Sane.{IsAlone}
 
@@ -53,6 +56,7 @@ pub record IsKeptPin (s : State) (kept : KeptPin) (pin : Pin) : Type 0 where
   pub number : kept.number ≡ pin.number
   pub sequence : kept.sequence ≡ (shown_at s pin.batches).sequence
   pub files : kept.files ≡ map held pin.files
+  pub manifest : kept.manifest ≡ pin.manifest
   pub holder : holder_of kept.job ≡ pin.holder
   pub within : pin.batches ≤ length s.accepted
   pub stands : Stands (folder_of_pin kept.manifest pin.files) (shown_at s pin.batches).contents (shown_at s pin.batches).sequence
@@ -69,11 +73,21 @@ pub record Pinned (d : disk.State) (dir : List ℕ) (kept : List KeptPin) (s : S
   pub pins : ArePins (IsKeptPin s) kept s.pins
   pub files : All (λ (pin : Pin). PinFiles d dir pin.files) s.pins
 
+-- The files that a cut lists are a folder, with a CURRENT of the cut's manifest, that stands for the accepted batches.
+pub record ListedStand (cut : Cut) (s : State) : Type 0 where
+  pub files : List PinnedFile
+  pub are : map listed cut.files ≡ map held files
+  pub stands : Stands (folder_of_pin cut.manifest files) (shown_at s (length s.accepted)).contents (shown_at s (length s.accepted)).sequence
+
 -- ---- checkpoints
 
--- the folder in which a checkpoint is built
-abbrev pub built_in : List ℕ → List ℕ
-built_in dir = dir ++ codes ".tmp"
+-- Whatever an earlier open left of a checkpoint's folder can be cleared, now and after each crash: under the name in which it
+-- is built there is nothing, or a folder that has no other folder in it.
+pub record AreClearable (d : disk.State) : Type 0 where
+  pub no_file : (dir : List ℕ) (k id : ℕ) → is_folder_name dir ≡ true
+      → finmap.get (all_named (take k d.pending) d.durable) (built_in dir) ≢ Some (File_node id)
+  pub no_folder : (dir rest : List ℕ) (k : ℕ) → is_folder_name dir ≡ true
+      → finmap.get (all_named (take k d.pending) d.durable) (built_in dir ++ 47 ∷ rest) ≢ Some Folder_node
 
 -- the file is whole in that folder: it is the store's own file, or a copy that has no other name
 pub record HasCopy (d : disk.State) (own built : List ℕ) (file : PinnedFile) : Type 0 where
@@ -97,16 +111,22 @@ done_files job files = take (length files - job.left) files
 abbrev pub left_files : Job → List PinnedFile → List PinnedFile
 left_files job files = drop (length files - job.left) files
 
--- of those that aren't, the one of which some bytes were copied, and those that aren't there at all
+-- how many of these are made: the first one or none
+abbrev pub begun_count : Bool → ℕ
+begun_count true = 1
+begun_count false = 0
+
+-- of those that aren't, the one that was made and of which some bytes may be copied, and those that aren't there at all
 abbrev pub begun_files : Job → List PinnedFile → List PinnedFile
-begun_files job files = take (min 1 job.copied) (left_files job files)
+begun_files job files = take (begun_count job.made) (left_files job files)
 
 abbrev pub absent_files : Job → List PinnedFile → List PinnedFile
-absent_files job files = drop (min 1 job.copied) (left_files job files)
+absent_files job files = drop (begun_count job.made) (left_files job files)
 
 -- The folder is there with what the steps have done: the whole files, a front of the one in hand, and no other file.
 pub record HasJob (d : disk.State) (own : List ℕ) (job : Job) (files : List PinnedFile) : Type 0 where
   pub left : job.left ≤ length files
+  pub unmade : job.made ≡ false → job.copied ≡ 0
   pub folder : finmap.get (names_now d) (built_in job.dir) ≡ Some Folder_node
   pub whole : All (HasCopy d own (built_in job.dir)) (done_files job files)
   pub hand : All (HasFront d (built_in job.dir) job.copied) (begun_files job files)

@@ -11,8 +11,8 @@ use Rattle.lsm_names.specs.declared.file_names.FileName.TheVariants.{Log, Table,
 use Rattle.lsm_rows.specs.declared.rows.Row.{Row}
 use Rattle.lsm_rows.specs.Replay.{sequence_after}
 use Rattle.lsm_disk.specs.Names.{Folder_node, File_node, all_named}
-use Rattle.lsm_disk.specs.State.{FileState, State, Change, Created, Named, file_at}
-use Rattle.lsm_disk.specs.Images.{bytes_at, tree_now}
+use Rattle.lsm_disk.specs.State.{FileState, State, Change, Created, Named, file_at, names_now}
+use Rattle.lsm_disk.specs.Images.{Tree, bytes_at, tree_now}
 use Rattle.lsm_disk.specs.Kept.{IsKeptName, IsKeptFile, OpSpares, SparesName, Spares}
 use Rattle.lsm_disk.specs.Building.{Part, IsBuilding, IsWriting, sealed}
 use Rattle.lsm_disk.specs.Dest.{Begun, path_in}
@@ -57,16 +57,15 @@ pub record HasEdits (d : State) (dir : List ℕ) (kept : Kept) (edits : List Edi
   pub log : kept.log ≡ log_after edits
   pub last : kept.last ≡ last_after edits
 
--- a live table is there for good with its rows, and so its view tells it
+-- A live table is there for good with its rows, and its view tells them, where there is one: a view that failed is closed,
+-- and another can't always be opened.
 pub record HasTable (d : State) (dir : List ℕ) (kept : Kept) (number : ℕ) (placed : Placed) (rows : List Row) : Type 0 where
   pub numbered : IsFileName (Table number)
   pub bytes : List ℕ
   pub file : IsWholeFile d (path_in dir (Table number)) bytes
   pub table : IsTable bytes rows number placed.info.session
   pub size : length bytes ≡ placed.info.size
-  pub view : Viewed
-  pub viewed : finmap.get kept.views number ≡ Some view
-  pub told : view.bytes ≡ Some bytes
+  pub viewed : (view : Viewed) → finmap.get kept.views number ≡ Some view → view.bytes ≡ Some bytes
 
 -- so is each live table
 pub record HasTables (d : State) (dir : List ℕ) (kept : Kept) (rows : ℕ → List Row) : Type 0 where
@@ -117,10 +116,15 @@ IsHeld kept name = IsNeeded kept name ⊎ Contains (flat_map names_held kept.pin
 pub record IsQuiet (d : State) (dir : List ℕ) (kept : Kept) : Type 0 where
   pub spares : (name : FileName) → IsHeld kept name → All (OpSpares (path_in dir name)) d.pending
 
--- the known names are those of the store's files in the folder
+-- the known names are those of the store's files in the folder, each of which is a file's
 pub record AreKnown (d : State) (dir : List ℕ) (kept : Kept) : Type 0 where
   pub there : (name : FileName) → Contains kept.known name → IsFileName name × (is_some (file_at d (path_in dir name)) ≡ true)
-  pub all : (name : FileName) → IsFileName name → is_some (file_at d (path_in dir name)) ≡ true → Contains kept.known name
+  pub all : (name : FileName) → IsFileName name → is_some (finmap.get (names_now d) (path_in dir name)) ≡ true → Contains kept.known name
+
+-- No folder stands under a name of a store's file, now and after each crash. So a file is made wherever no file is.
+pub record AreFiles (d : State) (dir : List ℕ) : Type 0 where
+  pub no_folder : (name : FileName) (k : ℕ) → IsFileName name
+      → finmap.get (all_named (take k d.pending) d.durable) (path_in dir name) ≢ Some Folder_node
 
 -- ---- files that are still written
 
@@ -171,9 +175,16 @@ pub record Sane (d : State) (dir : List ℕ) (kept : Kept) (parts : Parts) : Typ
   pub logs : HasLogs d dir kept parts
   pub quiet : IsQuiet d dir kept
   pub known : AreKnown d dir kept
+  pub files : AreFiles d dir
   pub lawful : AreLawful parts.edits parts.rows
   pub written : AreWritten d dir kept parts.last.number
   pub restored : RestoreBuilds d dir kept.begun kept.hand
+
+-- In this tree each live table's file is whole: its blocks, its index and its properties are those of a table of its rows. A
+-- folder that stands may have others, over which a reading could be wrong; so an opening asks for this besides.
+pub record HasWholeTables (dir : List ℕ) (edits : List Edit) (rows : ℕ → List Row) (t : Tree) : Type 0 where
+  pub each : (number : ℕ) (placed : Placed) → finmap.get (tables_after edits) number ≡ Some placed
+      → (bytes : List ℕ) × (bytes_at t (path_in dir (Table number)) ≡ Some bytes) × IsTable bytes (rows number) number placed.info.session
 
 -- ---- what a change leaves
 

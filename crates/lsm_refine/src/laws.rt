@@ -1,5 +1,5 @@
 //! Laws of the definitions that contracts cite. The functions do nothing: their contracts are the laws.
-ghost use Rattle.std.specs.Prelude.{◌≡◌, ℕ, ◌+◌, ◌≤◌, true, List, [], ◌∷◌, ◌++◌, length, All, Some, None};
+ghost use Rattle.std.specs.Prelude.{◌≡◌, ℕ, ◌+◌, ◌≤◌, true, List, [], ◌∷◌, ◌++◌, length, All, Some, None, Ok};
 ghost use Rattle.lsm_names.specs.Folders.{is_folder_name};
 ghost use Rattle.lsm_names.specs.FileNames.{IsFileName};
 ghost use Rattle.lsm_names.specs.declared.file_names.FileName.{FileName};
@@ -15,6 +15,8 @@ ghost use Rattle.lsm_disk.specs.declared.calls.Halt.{Halt};
 ghost use Rattle.lsm_disk.specs.Images.{Tree, IsImage, tree_now};
 ghost use Rattle.lsm_folder.specs.Files.{files_in};
 ghost use Rattle.lsm_reading.specs.Parts.{HasParts, AreLawful};
+ghost use Rattle.lsm_model.specs.declared.cuts.Cut.{Cut};
+ghost use Rattle.lsm_model.specs.declared.cuts.FlushRule.{FlushRule};
 ghost use Rattle.lsm_model.specs.declared.events.Event.{Event};
 ghost use Rattle.lsm_model.specs.declared.replies.Reply.{Reply};
 ghost use Rattle.lsm_model.specs.declared.states.FolderRead.{FolderRead};
@@ -24,13 +26,15 @@ ghost use Rattle.lsm_model.specs.Steps.{Step};
 ghost use Rattle.lsm_model.specs.Crashes.{Crashed};
 ghost use Rattle.lsm_refine.specs.Kept.{Kept, Shown};
 ghost use Rattle.lsm_refine.specs.Parts.{LogPart, Parts, batches_in};
-ghost use Rattle.lsm_refine.specs.Sane.{IsAlone, IsCurrent, HasEdits, HasTables, AreSynced, IsQuiet, AreKnown, SparesNeeded, IsOlder, KeepsNames, Sane};
-ghost use Rattle.lsm_refine.specs.Pins.{PinFiles};
+ghost use Rattle.lsm_refine.specs.Sane.{IsAlone, IsCurrent, HasEdits, HasTables, AreSynced, IsQuiet, AreKnown, AreFiles, SparesNeeded, IsOlder, KeepsNames, HasWholeTables, Sane};
+ghost use Rattle.lsm_refine.specs.Pins.{PinFiles, ListedStand, AreClearable};
 ghost use Rattle.lsm_refine.specs.Tied.{Tied};
 ghost use Rattle.lsm_refine.specs.Fronts.{HasFirst, ShowsFirst, last_text, logs_with, batches_with};
 ghost use Rattle.lsm_refine.specs.Folders.{StandsFrom, FoldersRead, ReadsAs, ChangesInside, SparesOutside, AppendsInside};
 ghost use Rattle.lsm_refine.specs.Good.{ShowsAccepted, Good, Leads, IsUnchanged, with_counts, stopped};
-ghost use Rattle.lsm_refine.specs.New.{HasNewStore, new_store, new_state, new_disk};
+ghost use Rattle.lsm_refine.specs.New.{HasNewStore, new_kept, new_store, new_state, new_disk};
+ghost use Rattle.lsm_refine.specs.Listing.{files_listed, manifest_listed};
+ghost use Rattle.lsm_refine.specs.Moments.{ImagesShow};
 
 /// Where the last log is cut behind its synced batches, the rows of tables and logs stand for a front of the accepted
 /// batches, which has the durable ones.
@@ -46,6 +50,12 @@ pub fn a_running_store_has_its_parts()
         → HasParts (files_in dir (tree_now d)) parts.edits parts.rows (logs_with parts (last_text parts)) (batches_with parts parts.last.batches) }
     ensures images { (d : disk.State) (dir : List ℕ) (kept : Kept) (parts : Parts) → Sane d dir kept parts
         → (t : Tree) → IsImage d t → HasFirst dir parts t }
+{}
+
+/// The live tables of a running store are whole files in each image, so that the next opening may ask for it.
+pub fn tables_stay_whole()
+    ensures { (d : disk.State) (dir : List ℕ) (kept : Kept) (parts : Parts) → Sane d dir kept parts → (t : Tree) → IsImage d t
+        → HasWholeTables dir parts.edits parts.rows t }
 {}
 
 /// A good store's folder stands now for the accepted batches, perhaps with the doubtful one, and in each image for a front of
@@ -67,8 +77,8 @@ pub fn a_good_store_shows_the_accepted_batches()
     ensures { (v : Shown) (s : State) → (good : Good v s) → ShowsAccepted (state_of good.story) v s }
 {}
 
-/// Where nothing changes but the disk's counts and its clock, a store stays good, for the state with these counts; so it does
-/// where a disk call that did nothing halts it.
+/// Where nothing changes but the disk's counts, its clock and which views are open, a store stays good, for the state with
+/// these counts; so it does where a disk call that did nothing halts it.
 pub fn an_unchanged_store_stays_good()
     ensures same { (v w : Shown) (s : State) (good : Good v s) → IsUnchanged good.story v w → w.halt ≡ v.halt → Good w (with_counts w.disk s) }
     ensures stopped { (v w : Shown) (s : State) (first : Halt) (good : Good v s) → IsUnchanged good.story v w → v.halt ≡ None → w.halt ≡ Some first
@@ -108,11 +118,29 @@ pub fn the_last_log_is_apart()
 {}
 
 /// A change that moves no name keeps what is known of names: which operations a crash may undo, which of the store's files are
-/// there, and that a file has no other name.
+/// there, that no folder stands under a file's name, that a checkpoint may be built, and that a file has no other name.
 pub fn names_stay_known()
     ensures quiet { (d : disk.State) (dir : List ℕ) (kept : Kept) (c : Change) → KeepsNames c → IsQuiet d dir kept → IsQuiet (after d c) dir kept }
     ensures known { (d : disk.State) (dir : List ℕ) (kept : Kept) (c : Change) → KeepsNames c → AreKnown d dir kept → AreKnown (after d c) dir kept }
+    ensures files { (d : disk.State) (dir : List ℕ) (c : Change) → KeepsNames c → AreFiles d dir → AreFiles (after d c) dir }
+    ensures clear { (d : disk.State) (c : Change) → KeepsNames c → AreClearable d → AreClearable (after d c) }
     ensures alone { (d : disk.State) (path : List ℕ) (c : Change) → KeepsNames c → IsAlone d path → IsAlone (after d c) path }
+{}
+
+/// Where a file is made or a name is removed, still no folder stands under a file's name. So too checkpoints may be built
+/// still, where the file is made in a folder.
+pub fn made_and_removed_files_are_no_folders()
+    ensures made { (d : disk.State) (dir path : List ℕ) → AreFiles d dir → AreFiles (after d (Created path)) dir }
+    ensures removed { (d : disk.State) (dir path : List ℕ) → AreFiles d dir → AreFiles (after d (Named (Gone path))) dir }
+    ensures clear_made { (d : disk.State) (own : List ℕ) (file : FileName) → AreClearable d → AreClearable (after d (Created (path_in own file))) }
+    ensures clear_removed { (d : disk.State) (path : List ℕ) → AreClearable d → AreClearable (after d (Named (Gone path))) }
+{}
+
+/// The files that a cut lists, with a `CURRENT` of its manifest, make a folder that stands for all batches that are accepted
+/// then. So what copies these files has a store's folder.
+pub fn a_cuts_files_stand()
+    ensures { (s t : State) (w : Shown) (rule : FlushRule) (cut : Cut) → Step s (Event.Cut rule) (Reply.Cut (Ok cut)) t
+        → Good w t → ListedStand cut t }
 {}
 
 /// Pinned files are there, and begin with their pin's bytes, behind each change that spares their names, also where it adds to
@@ -133,12 +161,25 @@ pub fn steps_lead_on()
         → ((s : State) → Good v s → (t : State) × Step s e r t × Good w t) → Leads start steps v → Leads start (steps ++ (e, r) ∷ []) w }
 {}
 
-/// A new store is good for the state of an empty store with the other folders as they read; on each disk these can be listed;
-/// and for each name of a folder there is a disk that has such a store.
+/// A new store, whose folder may have files of an opening that a crash cut off, is good for the state of an empty store with
+/// the other folders as they read; on each disk these can be listed; and for each name of a folder there is a disk that has
+/// such a store.
 pub fn a_new_store_is_good()
-    ensures good { (seen : Seen) (dir : List ℕ) (folders : List FolderRead) (story : Story) → seen.told ≡ Some story → HasNewStore (state_of story) dir
-        → FoldersRead (state_of story) (new_state seen dir folders) → Good (new_store seen dir) (new_state seen dir folders) }
-    ensures listed { (seen : Seen) (dir : List ℕ) (story : Story) → seen.told ≡ Some story → HasNewStore (state_of story) dir
-        → (folders : List FolderRead) × Good (new_store seen dir) (new_state seen dir folders) }
-    ensures some { (dir : List ℕ) → is_folder_name dir ≡ true → HasNewStore (new_disk dir) dir }
+    ensures good { (seen : Seen) (dir : List ℕ) (m : ℕ) (beside : List FileName) (folders : List FolderRead) (story : Story)
+        → seen.told ≡ Some story → HasNewStore (state_of story) dir m beside → FoldersRead (state_of story) (new_state seen dir m folders)
+        → Good (new_store seen dir m beside) (new_state seen dir m folders) }
+    ensures listed { (seen : Seen) (dir : List ℕ) (m : ℕ) (beside : List FileName) (story : Story) → seen.told ≡ Some story
+        → HasNewStore (state_of story) dir m beside → (folders : List FolderRead) × Good (new_store seen dir m beside) (new_state seen dir m folders) }
+    ensures some { (dir : List ℕ) → is_folder_name dir ≡ true → HasNewStore (new_disk dir) dir 1 [] }
+{}
+
+/// What a cut would list of a new store is its manifest alone: there is no table, and its log is empty.
+pub fn a_new_store_lists_its_manifest()
+    ensures { (m : ℕ) (beside : List FileName) → files_listed (new_kept m beside) ≡ manifest_listed (new_kept m beside) ∷ [] }
+{}
+
+/// Where a call of a good store did nothing to the disk, each image reads as a crash leaves the state before it, whatever the
+/// state behind it.
+pub fn nothing_done_shows_the_same()
+    ensures { (v : Shown) (s t : State) → (good : Good v s) → ImagesShow good.story (Some good.story) s t }
 {}

@@ -35,7 +35,7 @@ trailer_of key n below =
 pub user_key_of : (key : List ℕ) (n : ℕ) → user_key (key ++ to_le_bytes w64 n) ≡ key
 user_key_of key n = ap (λ (at : ℕ). take at (key ++ to_le_bytes w64 n)) (at_end key n) ∙ take_at key (to_le_bytes w64 n) (length key) refl
 
-kind_small : (kind : Kind) → kind_byte kind < 2
+pub kind_small : (kind : Kind) → kind_byte kind < 2
 kind_small Delete = omega arith
 kind_small Put = omega arith
 

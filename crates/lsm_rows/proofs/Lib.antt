@@ -1,6 +1,8 @@
 pub mod BatchSizes
 pub mod InternalOrder
+pub mod Lists
 pub mod NewestRows
+pub mod PairEntries
 pub mod PieceFaults
 pub mod Prefixes
 pub mod ReadBatch
@@ -9,3 +11,4 @@ pub mod ReadNumbers
 pub mod ReadOps
 pub mod ReadSized
 pub mod ReplayedRows
+pub mod Replaying

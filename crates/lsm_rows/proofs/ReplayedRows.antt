@@ -45,7 +45,8 @@ contents_last rows r q below =
       | false ↦ sym (get_contents rows q)
     ]
 
-sequence-is : (sequence : ℕ) (op : Op) → (row_of sequence op).sequence ≡ sequence
+-- a row has the sequence that it was given
+pub sequence-is : (sequence : ℕ) (op : Op) → (row_of sequence op).sequence ≡ sequence
 sequence-is sequence (Put key value) = refl
 sequence-is sequence (Delete key) = refl
 

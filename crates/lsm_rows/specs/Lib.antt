@@ -3,6 +3,7 @@ pub mod Contents
 pub mod Decoding
 pub mod InternalKeys
 pub mod Limits
+pub mod Pairs
 pub mod Pieces
 pub mod Replay
 pub mod Rows

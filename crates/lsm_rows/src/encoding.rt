@@ -52,27 +52,3 @@ pub fn encode_batch(alloc: Global, first: u64, batch: &Batch) -> Result<Bytes, N
     }
     Ok(text)
 }
-
-#[cfg(test)]
-mod tests {
-    use super::*;
-    use crate::BatchRefusal;
-
-    #[test]
-    fn a_put_and_a_delete_have_this_text(rt: HostRuntime) -> Result<(), BatchRefusal> {
-        let mut batch = Batch::new(rt.alloc());
-        batch.put(b"a", b"1")?;
-        let one = encode_batch(rt.alloc(), 1, &batch)?;
-        assert_eq!(rt;
-            one.as_slice(),
-            b"\x01\0\0\0\0\0\0\0\x01\0\0\0\x01\x01a\x011".as_slice()
-        );
-        batch.delete(b"bc")?;
-        let two = encode_batch(rt.alloc(), 0x0102_0304, &batch)?;
-        assert_eq!(rt;
-            two.as_slice(),
-            b"\x04\x03\x02\x01\0\0\0\0\x02\0\0\0\x01\x01a\x011\0\x02bc".as_slice()
-        );
-        Ok(())
-    }
-}

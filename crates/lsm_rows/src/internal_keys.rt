@@ -176,18 +176,3 @@ fn kind_number(kind: Kind) -> u64
         Kind::Put => 1,
     }
 }
-
-#[cfg(test)]
-mod tests {
-    use super::*;
-
-    #[test]
-    fn internal_keys_have_these_bytes(rt: HostRuntime) -> Result<(), NoMemory> {
-        let put = InternalKey::new(rt.alloc(), b"a", 1, Kind::Put)?;
-        assert_eq!(rt; put.as_slice(), b"a\x01\x01\0\0\0\0\0\0".as_slice());
-        let delete = InternalKey::new(rt.alloc(), b"a", 2, Kind::Delete)?;
-        assert_eq!(rt; delete.as_slice(), b"a\0\x02\0\0\0\0\0\0".as_slice());
-        assert!(rt; delete < put);
-        Ok(())
-    }
-}

@@ -1,4 +1,6 @@
 //! Batches of operations with their text, rows with their internal keys, and what both stand for.
+//!
+//! [`Pairs`] is what a store holds after its batches: keys with their values, in the order of keys.
 #![tactic(auto)]
 
 mod batches;
@@ -10,6 +12,7 @@ mod laws;
 mod lengths;
 mod limits;
 mod operations;
+mod pairs;
 mod refusals;
 mod rows;
 
@@ -26,5 +29,6 @@ pub use laws::{
 };
 pub use limits::{MAX_BYTES, MAX_COUNT, MAX_KEY, MAX_VALUE, SEQUENCES};
 pub use operations::Op;
+pub use pairs::Pairs;
 pub use refusals::{BatchRefusal, What};
 pub use rows::{Row, Rows};

@@ -84,26 +84,3 @@ impl Rows {
         Ok(())
     }
 }
-
-#[cfg(test)]
-mod tests {
-    use super::*;
-
-    #[test]
-    fn rows_come_out_in_their_order(rt: HostRuntime) -> Result<(), NoMemory> {
-        let mut rows = Rows::new(rt.alloc());
-        for sequence in 1..3 {
-            let key = Bytes::from_slice(rt.alloc(), b"k")?;
-            rows.push(Row {
-                key,
-                sequence,
-                value: None,
-            })?;
-        }
-        assert_eq!(rt;
-            rows.as_slice().iter().map(|row| row.sequence).max(),
-            Some(2)
-        );
-        Ok(())
-    }
-}

@@ -14,13 +14,8 @@ use Rattle.lsm_block.specs.Blocks.{keys_of, IsBlock}
 use Rattle.lsm_block.specs.Parts.{last_from, last_key}
 use Rattle.lsm_block.specs.Runs.{comes_after}
 use Rattle.lsm_block.proofs.Keys.{sorted-above, sorted-rest}
-use Rattle.lsm_block.proofs.Sought.{Falls, IsBetween}
+use Rattle.lsm_block.proofs.Sought.{Falls, IsBetween, is_less}
 use Rattle.lsm_table.specs.Rows.{entries_after, IsCutAfter}
-
-is_less : (o : Ordering) → is_lt o ≡ true → o ≡ Less
-is_less Less is = refl
-is_less Equal is = cc
-is_less Greater is = cc
 
 -- the entry doesn't come after the key
 abbrev pub is_up_to : List ℕ → Entry → Bool

@@ -22,6 +22,7 @@ use Rattle.lsm_table.specs.Cuts.{Cut, index_entry, end_block, added, ended}
 use Rattle.lsm_table.specs.Building.{Built, IsCutOf, IsBuilt, IsFinished}
 use Rattle.lsm_table.specs.WholeTables.{IsTable}
 use Rattle.lsm_table.proofs.Cutting.{added_open, added_full, ended_some, ended_none, end-is, stored-len}
+use Rattle.lsm_names.proofs.SessionLemmas.{length_of_session}
 
 pub blocks-push : (es : List Entry) (e : Entry) → blocks_of (es ++ e ∷ []) ≡ blocks_more (blocks_of es) e
 unfolding blocks_of
@@ -293,14 +294,6 @@ footer_made places first second out mid next new cells index len properties k m 
     ∙ ap (λ s. s ++ magic) (append_assoc out (places_text index len properties) (to_le_bytes w32 (masked (crc32c (places_text index len properties)))))
     ∙ append_assoc out (places_text index len properties ++ to_le_bytes w32 (masked (crc32c (places_text index len properties)))) magic
 
-pub session_len : (name : List ℕ) → is_session name ≡ true → length name ≡ 20
-unfolding is_session
-session_len name is = by_test (length name == 20) refl is
-  where
-    by_test : (t : Bool) → (length name == 20) ≡ t → (t && list_all is_session_byte name) ≡ true → length name ≡ 20
-    by_test true same rest = grind (arith, nat_tests)
-    by_test false same rest = cc
-
 pub row_key : (key made user : List ℕ) (sequence : ℕ) (kind : Kind) (row : Row) → IsInternalKey key user sequence kind → user ≡ row.key → sequence ≡ row.sequence → kind ≡ kind_of row.value → made ≡ key → made ≡ (row_entry row).key
 row_key key made user sequence kind row is user_is sequence_is kind_is made_is = made_is ∙ is.is ∙ (λ i. internal_key (user_is i) (sequence_is i) (kind_byte (kind_is i)))
 
@@ -308,7 +301,7 @@ row_key key made user sequence kind row is user_is sequence_is kind_is made_is =
 pub whole_made : (v : Built) (rows : List Row) (handed tail : List ℕ) (size : ℕ) (smallest largest : List ℕ) → IsFinished v rows handed tail size smallest largest → AreTableRows rows → v.number < 2 ^ 64 → is_session v.session ≡ true
     → size < 2 ^ 32 → IsTable (handed ++ tail) rows v.number v.session
 whole_made v rows handed tail size smallest largest is are number session small = record {
-  is = record { is = is.text; are_rows = are; number_fits = number; session_len = session_len v.session session };
+  is = record { is = is.text; are_rows = are; number_fits = number; session_len = length_of_session v.session session };
   spelled = session;
   small = omega (arith, ap (length {A = ℕ}) is.text, is.size_is, small);
 }

@@ -15,6 +15,7 @@ use Rattle.lsm_table.specs.declared.parts.Places.{Places}
 use Rattle.lsm_table.specs.declared.parts.Properties.{Properties}
 use Rattle.lsm_table.specs.Opening.{part_at, footer_in, footer_of, contents_at, told_by, properties_at, TellsBlock, IsIndex, IsFaultOf, IsIndexFault, IsRefused, IsOutside, Opens}
 use Rattle.lsm_table.specs.Tables.{Shows, AreParts}
+use Rattle.lsm_frame.proofs.Going.{tells_still}
 
 -- an exit that hands a fault on
 pub by_fault : {T : Type 0} (P : TableFault → Type 0) (r : Result T TableFault) (e : TableFault) → IsErrAnd r (λ x. x ≡ e) → P e → IfErr r P
@@ -110,9 +111,6 @@ told_fault place text e fault = carried (contents_at place 36 text) (properties_
 -- a view that stays tells what it told
 pub tells_back : (a b : Viewed) (text : List ℕ) → Stays a b → Tells b text → Tells a text
 tells_back a b text stays told = record { bytes = sym stays.bytes ∙ told.bytes; whole = told.whole ∙ stays.len }
-
-pub tells_on : (a b : Viewed) (text : List ℕ) → Stays a b → Tells a text → Tells b text
-tells_on a b text stays told = record { bytes = stays.bytes ∙ told.bytes; whole = told.whole ∙ sym stays.len }
 
 pub index_refused : (text : List ℕ) (places : Places) (e : TableFault) → footer_of text ≡ Ok places → IsIndexFault text places e → IsRefused text e
 index_refused text places e footer fault = inr (record { places = places; footer = footer; fault_is = inl fault })

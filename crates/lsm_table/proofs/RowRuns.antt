@@ -10,7 +10,7 @@ use Rattle.lsm_rows.specs.declared.rows.Row.{Row}
 use Rattle.lsm_rows.specs.declared.internal_keys.Kind.{Kind}
 use Rattle.lsm_rows.specs.declared.internal_keys.Kind.TheVariants.{Delete, Put}
 use Rattle.lsm_rows.specs.InternalKeys.{IsInternalKey, internal_key, user_key, trailer, kind_byte}
-use Rattle.lsm_rows.proofs.InternalOrder.{trailer_of, user_key_of}
+use Rattle.lsm_rows.proofs.InternalOrder.{trailer_of, user_key_of, kind_small}
 use Rattle.lsm_block.specs.declared.entries.Entry.{Entry}
 use Rattle.lsm_block.specs.Blocks.{IsKey, keys_of}
 use Rattle.lsm_block.specs.Runs.{comes_after, rows_after}
@@ -22,14 +22,9 @@ use Rattle.lsm_table.specs.Rows.{entries_after, row_at, IsOfBlock, AreOfBlocks}
 use Rattle.lsm_table.specs.Searching.{IsValue}
 use Rattle.lsm_table.proofs.AfterKeys.{after_append, after_nil, none_after}
 
--- the row of an entry from the parts of its key
-kind_below : (kind : Kind) → kind_byte kind < 2
-kind_below Delete = omega arith
-kind_below Put = omega arith
-
 number_of : (bytes user : List ℕ) (sequence : ℕ) (kind : Kind) → IsInternalKey bytes user sequence kind → trailer bytes ≡ sequence * 256 + kind_byte kind
 unfolding internal_key
-number_of bytes user sequence kind is = ap trailer is.is ∙ trailer_of user (sequence * 256 + kind_byte kind) (omega (arith, is.below, kind_below kind))
+number_of bytes user sequence kind is = ap trailer is.is ∙ trailer_of user (sequence * 256 + kind_byte kind) (omega (arith, is.below, kind_small kind))
 
 user_of : (bytes user : List ℕ) (sequence : ℕ) (kind : Kind) → IsInternalKey bytes user sequence kind → user_key bytes ≡ user
 unfolding internal_key
@@ -46,8 +41,8 @@ unfolding row_at
 row_read e user key sequence kind value is kept got =
     let number : trailer e.key ≡ sequence * 256 + kind_byte kind = number_of e.key user sequence kind is in
     let key_is : key ≡ user_key e.key = kept ∙ sym (user_of e.key user sequence kind is) in
-    let sequence_is : sequence ≡ trailer e.key / 256 = omega (arith, number, kind_below kind) in
-    let byte_is : kind_byte kind ≡ trailer e.key % 256 = omega (arith, number, kind_below kind) in
+    let sequence_is : sequence ≡ trailer e.key / 256 = omega (arith, number, kind_small kind) in
+    let byte_is : kind_byte kind ≡ trailer e.key % 256 = omega (arith, number, kind_small kind) in
     let value_is : value ≡ (if trailer e.key % 256 == 0 then None else Some e.value) = value_read kind e.value value got ∙ ap (λ (b : ℕ). if b == 0 then None else Some e.value) byte_is in
     (λ i. record { key = key_is i; sequence = sequence_is i; value = value_is i })
 

@@ -14,7 +14,7 @@ use Rattle.lsm_rows.specs.declared.internal_keys.Kind.TheVariants.{Delete, Put}
 use Rattle.lsm_rows.specs.InternalKeys.{internal_key, user_key, trailer, kind_byte}
 use Rattle.lsm_rows.specs.Replay.{key_cmp}
 use Rattle.lsm_rows.specs.Contents.{newer, newest}
-use Rattle.lsm_rows.proofs.InternalOrder.{trailer_of}
+use Rattle.lsm_rows.proofs.InternalOrder.{trailer_of, kind_small}
 use Rattle.lsm_rows.proofs.NewestRows.{same_key, newest_is}
 use Rattle.lsm_disk.specs.Viewed.{Viewed}
 use Rattle.lsm_frame.specs.Reader.{Tells}
@@ -206,18 +206,14 @@ kinds_same None (Some w) same value = absurd (omega (arith, same))
 kinds_same (Some v) None same value = absurd (omega (arith, same))
 kinds_same (Some v) (Some w) same value = ap Some (value v refl)
 
-kind_few : (kind : Kind) → kind_byte kind < 2
-kind_few Delete = omega arith
-kind_few Put = omega arith
-
 trailer_is : (row : Row) → row.sequence < 2 ^ 56 → trailer (row_entry row).key ≡ row.sequence * 256 + kind_byte (kind_of row.value)
 unfolding internal_key
-trailer_is row below = trailer_of row.key (row.sequence * 256 + kind_byte (kind_of row.value)) (omega (arith, below, kind_few (kind_of row.value)))
+trailer_is row below = trailer_of row.key (row.sequence * 256 + kind_byte (kind_of row.value)) (omega (arith, below, kind_small (kind_of row.value)))
 
 pub row_once : (a b : Row) → a.sequence < 2 ^ 56 → b.sequence < 2 ^ 56 → (row_entry a).key ≡ (row_entry b).key → a.key ≡ b.key → ((v : List ℕ) → a.value ≡ Some v → v ≡ (row_entry b).value) → a ≡ b
 row_once a b first second keys users value =
     let last : a.sequence * 256 + kind_byte (kind_of a.value) ≡ b.sequence * 256 + kind_byte (kind_of b.value) = sym (trailer_is a first) ∙ ap trailer keys ∙ trailer_is b second in
-    let sequence : a.sequence ≡ b.sequence = omega (arith, last, kind_few (kind_of a.value), kind_few (kind_of b.value)) in
+    let sequence : a.sequence ≡ b.sequence = omega (arith, last, kind_small (kind_of a.value), kind_small (kind_of b.value)) in
     let kind : kind_byte (kind_of a.value) ≡ kind_byte (kind_of b.value) = omega (arith, last, sequence) in
     let values : a.value ≡ b.value = kinds_same a.value b.value kind value in
     λ i. record { key = users i; sequence = sequence i; value = values i }

@@ -9,14 +9,10 @@ mod laws;
 mod opening;
 mod parts;
 mod rows;
-#[cfg(test)]
-mod rows_tests;
 mod searching;
 mod storing;
 mod table;
 mod tables;
-#[cfg(test)]
-mod tests;
 
 pub use building::{Finished, TableBuilder};
 pub use faults::{TableError, TableFault};

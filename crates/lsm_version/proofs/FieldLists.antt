@@ -14,9 +14,6 @@ use Rattle.lsm_version.specs.declared.fields.Field.TheVariants.{LogNumber, NextN
 use Rattle.lsm_version.specs.EditText.{given, fields_of}
 use Rattle.lsm_version.specs.Reading.{with_field}
 
-pub session_len : (name : List ℕ) → is_session name ≡ true → length name ≡ 20
-session_len name is = length_of_session name is
-
 -- an edit that says nothing
 abbrev pub empty_edit : Edit
 empty_edit = record { log = None; next = None; last = None; adds = []; drops = [] }

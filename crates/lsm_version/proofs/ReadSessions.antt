@@ -10,6 +10,7 @@ use Rattle.lsm_names.proofs.SessionLemmas.{length_of_session}
 use Rattle.lsm_rows.specs.Pieces.{Begins, FaultFrom}
 use Rattle.lsm_version.specs.Reading.{IsSessionIn, IsSessionAt}
 use Rattle.lsm_version.proofs.ReadKeys.{taken_at}
+use Rattle.std.proofs.lemmas.Bool.{and_parts}
 
 bytes_of : (name : List ℕ) → is_session name ≡ true → list_all is_session_byte name ≡ true
 unfolding is_session
@@ -19,23 +20,19 @@ pub session_of : (name : List ℕ) → length name ≡ 20 → list_all is_sessio
 unfolding is_session
 session_of name size good = grind (arith, nat_tests)
 
-and_true : (a b : Bool) → (a && b) ≡ true → (a ≡ true) × (b ≡ true)
-and_true true b is = (refl, is)
-and_true false b is = cc
-
 both_true : (a b : Bool) → a ≡ true → b ≡ true → (a && b) ≡ true
 both_true true b p q = q
 both_true false b p q = cc
 
 all_at : (p : ℕ → Bool) (xs : List ℕ) (i : ℕ) → list_all p xs ≡ true → i < length xs → p (get_or xs i 0) ≡ true
 all_at p [] i all less = absurd (omega (arith, less))
-all_at p (x ∷ xs) zero all less = (and_true (p x) (list_all p xs) all).0
-all_at p (x ∷ xs) (suc i) all less = all_at p xs i (and_true (p x) (list_all p xs) all).1 (omega (arith, less))
+all_at p (x ∷ xs) zero all less = (and_parts (p x) (list_all p xs) all).0
+all_at p (x ∷ xs) (suc i) all less = all_at p xs i (and_parts (p x) (list_all p xs) all).1 (omega (arith, less))
 
 all_joined : (p : ℕ → Bool) (xs ys : List ℕ) → list_all p xs ≡ true → list_all p ys ≡ true → list_all p (xs ++ ys) ≡ true
 all_joined p [] ys all more = more
 all_joined p (x ∷ xs) ys all more =
-    let one = and_true (p x) (list_all p xs) all in
+    let one = and_parts (p x) (list_all p xs) all in
     both_true (p x) (list_all p (xs ++ ys)) one.0 (all_joined p xs ys one.1 more)
 
 all_filled : (p : ℕ → Bool) (n b : ℕ) → p b ≡ true → list_all p (replicate n b) ≡ true

@@ -14,9 +14,9 @@ use Rattle.lsm_version.specs.declared.refusals.EditError.{EditError}
 use Rattle.lsm_version.specs.declared.refusals.EditError.TheVariants.{BadEdit, NoMemory}
 use Rattle.lsm_version.specs.Edits.{IsKey, IsTable}
 use Rattle.lsm_version.specs.Reading.{IsFaultAt, IsBadAt, IsSessionIn, IsSessionAt, IsKeyIn, IsKeyAt, IsTableIn, IsTableAt}
-use Rattle.lsm_version.proofs.FieldLists.{session_len}
 use Rattle.lsm_version.proofs.ReadKeys.{zeros_key}
 use Rattle.lsm_version.proofs.Texts.{rest_split, rest_is}
+use Rattle.lsm_names.proofs.SessionLemmas.{length_of_session}
 
 pub bad_fault : (Whole Ahead : List ℕ → Type 0) (bytes : List ℕ) (at place : ℕ) (e : EditError) → e ≡ BadEdit place → IsFaultAt Whole Ahead bytes at place → IsBadAt Whole Ahead bytes at e
 unfolding IsBadAt
@@ -89,11 +89,11 @@ past_session : (session t : List ℕ) → is_session session ≡ true → (table
     → t ≡ varint table.size ++ (sized table.smallest ++ (sized table.largest ++ more))
 past_session session t named table more is same =
     (same_length session table.session t (varint table.size ++ (sized table.smallest ++ (sized table.largest ++ more)))
-    (session_len session named ∙ sym (session_len table.session is.session)) same).1
+    (length_of_session session named ∙ sym (length_of_session table.session is.session)) same).1
 
 module _ (bytes : List ℕ) (at : ℕ) (session : List ℕ) (first : IsSessionAt bytes at session) where
   ends : at + 20 ≡ at + length session
-  ends = omega (arith, session_len session first.good)
+  ends = omega (arith, length_of_session session first.good)
 
   pub table_size_fault : (place : ℕ) → FaultFrom (IsNumberIn 0 most_size) bytes (at + 20) place → FaultFrom IsTableIn bytes at place
   table_size_fault place inner =

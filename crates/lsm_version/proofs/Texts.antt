@@ -15,7 +15,8 @@ use Rattle.lsm_version.specs.declared.fields.Field.{Field}
 use Rattle.lsm_version.specs.declared.fields.Field.TheVariants.{LogNumber, NextNumber, LastSequence, Added, Dropped}
 use Rattle.lsm_version.specs.EditText.{place_text, rest_text, field_text, fields_of, edit_text}
 use Rattle.lsm_version.specs.Edits.{IsTable, InRange, AreFields, rank_of, start, IsEditText}
-use Rattle.lsm_version.proofs.FieldLists.{session_len, fields_only}
+use Rattle.lsm_version.proofs.FieldLists.{fields_only}
+use Rattle.lsm_names.proofs.SessionLemmas.{length_of_session}
 
 pub sized_is : (value : List ℕ) → sized value ≡ varint (length value) ++ value
 sized_is value = sized-is value
@@ -47,7 +48,7 @@ rest_is a = simp append_assoc
 pub rest_once : (a b : TableInfo) (x y : List ℕ) → is_session a.session ≡ true → is_session b.session ≡ true → rest_text a ++ x ≡ rest_text b ++ y → IsSameRest a b x y
 rest_once a b x y is other same =
     let one = same_length a.session b.session (varint a.size ++ (sized a.smallest ++ (sized a.largest ++ x))) (varint b.size ++ (sized b.smallest ++ (sized b.largest ++ y)))
-    (session_len a.session is ∙ sym (session_len b.session other)) (sym (rest_split a x) ∙ same ∙ rest_split b y) in
+    (length_of_session a.session is ∙ sym (length_of_session b.session other)) (sym (rest_split a x) ∙ same ∙ rest_split b y) in
     let two = varint_once a.size b.size (sized a.smallest ++ (sized a.largest ++ x)) (sized b.smallest ++ (sized b.largest ++ y)) one.1 in
     let three = sized_once a.smallest b.smallest (sized a.largest ++ x) (sized b.largest ++ y) two.1 in
     let four = sized_once a.largest b.largest x y three.1 in

@@ -2,8 +2,6 @@
 #![tactic(auto)]
 
 mod decoding;
-#[cfg(test)]
-mod edit_tests;
 mod edits;
 mod encoding;
 mod field_reading;

@@ -17,8 +17,10 @@ use Rattle.lsm_wal.specs.Stepping.{IsBatchAt, IsNext, IsLost, Follows}
 use Rattle.lsm_wal.specs.declared.reading.Step.TheVariants.{More, Over}
 use Rattle.lsm_wal.specs.declared.why.WalWhy.{WalWhy}
 use Rattle.lsm_wal.specs.declared.why.WalWhy.TheVariants as why
-use Rattle.lsm_wal.proofs.Once.{Starts, some_of, slice_map}
+use Rattle.lsm_wal.proofs.Once.{Starts, slice_map}
 use Rattle.lsm_wal.proofs.Texts.{sequence_push}
+use Rattle.std.proofs.lemmas.Option.{same_Some}
+use Rattle.lsm_frame.proofs.Going.{tells_still}
 
 pub sequence_more : (first : ℕ) (batches : List (List Op)) (ops : List Op) → sequence_after first (batches ++ ops ∷ []) ≡ sequence_after first batches + length ops
 sequence_more first [] ops = refl
@@ -26,7 +28,7 @@ sequence_more first (batch ∷ batches) ops = sequence_more (first + length batc
 
 take_one_more : (n : ℕ) (texts : List (List ℕ)) (text : List ℕ) → slice_get texts n ≡ Some text → take (suc n) texts ≡ take n texts ++ text ∷ []
 take_one_more n [] text is = cc
-take_one_more zero (t ∷ texts) text is = ap (λ (x : List ℕ). x ∷ []) (some_of t text is)
+take_one_more zero (t ∷ texts) text is = ap (λ (x : List ℕ). x ∷ []) (same_Some t text is)
 take_one_more (suc n) (t ∷ texts) text is = ap (λ (l : List (List ℕ)). t ∷ l) (take_one_more n texts text is)
 
 -- before the first record
@@ -66,9 +68,6 @@ lost_read expected text batches (why.Gap kept found) starts lost = (batches, los
 
 stays_on : (a b c : Viewed) → Stays a b → Stays b c → Stays a c
 stays_on a b c one two = record { bytes = two.bytes ∙ one.bytes; len = two.len ∙ one.len; faults = omega (arith, one.faults, two.faults) }
-
-tells_still : (a b : Viewed) (text : List ℕ) → Stays a b → Tells a text → Tells b text
-tells_still a b text stays tells = record { bytes = stays.bytes ∙ tells.bytes; whole = tells.whole ∙ sym stays.len }
 
 -- from the start on the reader gave the records of these batches, and the next one is to begin with this sequence
 pub record Going (start now : Reader) (expected next : ℕ) (batches : List (List Op)) : Type 0 where

@@ -14,6 +14,7 @@ use Rattle.lsm_frame.specs.Reader.{EndsBehind}
 use Rattle.lsm_wal.specs.Batches.{Logged, text_of, IsLogged, in_sequence}
 use Rattle.lsm_wal.proofs.Texts.{sequence_length}
 use Rattle.lsm_wal.specs.Reading.{Stop, At_end, At_no_batch, At_gap, StopsAt, IsReading}
+use Rattle.std.proofs.lemmas.Option.{same_Some}
 
 -- texts begin with those of these batches, whose sequences follow one another
 pub record Starts (expected : ℕ) (texts : List (List ℕ)) (batches : List (List Op)) : Type 0 where
@@ -25,9 +26,6 @@ head_of x y xs ys e = cc
 
 tail_of : {A : Type 0} (x y : A) (xs ys : List A) → x ∷ xs ≡ y ∷ ys → xs ≡ ys
 tail_of x y xs ys e = cc
-
-pub some_of : {A : Type 0} (x y : A) → Some x ≡ Some y → x ≡ y
-some_of x y e = cc
 
 no_texts : {A : Type 0} (n : ℕ) (x : A) (xs : List A) → take (suc n) [] ≡ x ∷ xs → ⊥
 no_texts n x xs e = cc
@@ -69,7 +67,7 @@ text_behind : (expected : ℕ) (texts : List (List ℕ)) (a b : List (List Op)) 
 text_behind expected texts [] [] payload is starts lt there = absurd (omega (arith, lt))
 text_behind expected texts [] (y ∷ b) payload is starts lt there =
     let one = first_text expected y b texts starts in
-    (y, subst (λ (t : List ℕ). IsBatchText t expected y) (some_of one.0 payload (sym (ap (λ (ts : List (List ℕ)). slice_get ts 0) one.2) ∙ there)) one.3)
+    (y, subst (λ (t : List ℕ). IsBatchText t expected y) (same_Some one.0 payload (sym (ap (λ (ts : List (List ℕ)). slice_get ts 0) one.2) ∙ there)) one.3)
 text_behind expected texts (x ∷ a) [] payload is starts lt there = absurd (omega (arith, lt))
 text_behind expected texts (x ∷ a) (y ∷ b) payload is starts lt there =
     let one = first_text expected y b texts starts in
@@ -81,7 +79,7 @@ text_behind expected texts (x ∷ a) (y ∷ b) payload is starts lt there =
 
 pub slice_map : (records : List (ℕ × List ℕ)) (n place : ℕ) (payload : List ℕ) → slice_get records n ≡ Some (place, payload) → slice_get (map (λ (r : ℕ × List ℕ). r.1) records) n ≡ Some payload
 slice_map [] n place payload is = cc
-slice_map (r ∷ records) zero place payload is = ap (λ (x : ℕ × List ℕ). Some x.1) (some_of r (place, payload) is)
+slice_map (r ∷ records) zero place payload is = ap (λ (x : ℕ × List ℕ). Some x.1) (same_Some r (place, payload) is)
 slice_map (r ∷ records) (suc n) place payload is = slice_map records n place payload is
 
 slice_inside : (records : List (ℕ × List ℕ)) (n : ℕ) (r : ℕ × List ℕ) → slice_get records n ≡ Some r → n < length records
@@ -119,7 +117,7 @@ module _ (expected : ℕ) (text : List ℕ) where
       sym begins ∙ take_all (length a) b (omega (arith, many))
 
   record_once : (n place other : ℕ) (payload also : List ℕ) → slice_get (records_of text).0 n ≡ Some (place, payload) → slice_get (records_of text).0 n ≡ Some (other, also) → ◌≡◌ {A = ℕ × List ℕ} (place, payload) (other, also)
-  record_once n place other payload also one two = some_of (place, payload) (other, also) (sym one ∙ two)
+  record_once n place other payload also one two = same_Some (place, payload) (other, also) (sym one ∙ two)
 
   not_ended : (a : List (List Op)) (ending : Ending) (place : ℕ) (payload : List ℕ) → EndsBehind text (length a) ending → slice_get (records_of text).0 (length a) ≡ Some (place, payload) → ⊥
   not_ended a ending place payload ends stands = omega (arith, ends.records, slice_inside (records_of text).0 (length a) (place, payload) stands)

@@ -6,8 +6,6 @@ mod batches;
 mod laws;
 mod log;
 mod reading;
-#[cfg(test)]
-mod tests;
 mod why;
 
 pub use batches::Batches;

@@ -1,8 +1,8 @@
 use Rattle.std.proofs.Common.{◌∙◌}
 use Rattle.ldb_script.specs.Printed.{backup_line}
 use Rattle.ldb_script.proofs.Answered.{are_plain, create_answers, uncreated_answers, unviewed_answers, line_untouched, made_text}
-use Rattle.ldb_script.proofs.Opened.{rose_later}
 use Rattle.ldb_script.proofs.answering.create_at.Goals as goal
+use Rattle.lsm_frame.proofs.Going.{rose_later}
 
 pub returns-in-Err-clause-done : goal.returns-in-Err-clause-done
 returns-in-Err-clause-done g c origin before after outcome left stands backs =

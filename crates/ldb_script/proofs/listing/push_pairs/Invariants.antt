@@ -1,6 +1,6 @@
 use Rattle.std.proofs.Common.{◌≡◌, ◌++◌, map}
 use Rattle.std.specs.List.{flat_map}
-use Rattle.lsm_recover.specs.Contents.{pair_of}
+use Rattle.lsm_rows.specs.Pairs.{pair_of}
 use Rattle.ldb_script.specs.Printed.{pair_line}
 use Rattle.ldb_script.proofs.listing.push_pairs.Given as goal
 

@@ -2,9 +2,9 @@ use Rattle.std.proofs.Common.{◌++◌, ℕ, List, map, ap, sym, ◌∙◌}
 use Rattle.std.specs.FinMap as finite
 use Rattle.std.specs.List.{flat_map}
 use Rattle.lsm_rows.specs.Replay.{Contents}
-use Rattle.lsm_recover.specs.Contents.{pair_of}
+use Rattle.lsm_rows.specs.Pairs.{pair_of}
 use Rattle.ldb_script.specs.Printed.{pair_line, end_line}
-use Rattle.lsm_recover.proofs.Entries.{entries_contents}
+use Rattle.lsm_rows.proofs.PairEntries.{entries_contents}
 use Rattle.ldb_script.proofs.listing.scan_text.Goals as goal
 
 pub returns : goal.returns

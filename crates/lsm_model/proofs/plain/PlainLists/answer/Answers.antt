@@ -26,7 +26,7 @@ pub returns-in-CompactBegin-clause-step : goal.returns-in-CompactBegin-clause-st
 returns-in-CompactBegin-clause-step c = step.step_of _ _ _ _ _ c.in-CompactBegin.is (step.step_compact_begin (state_of c.args.self.now) (state_of c.args.self.now) c.in-CompactBegin.which c.compact_begin.result c.compact_begin.ensures)
 
 pub returns-in-CompactStep-clause-step : goal.returns-in-CompactStep-clause-step
-returns-in-CompactStep-clause-step c = step.step_of _ _ _ _ _ c.in-CompactStep.is (step.step_compact_step (state_of c.args.self.now) (state_of c.args.self.now) c.in-CompactStep.rows c.compact_step.result c.compact_step.ensures)
+returns-in-CompactStep-clause-step c = step.step_of _ _ _ _ _ c.in-CompactStep.is (step.step_compact_step (state_of c.args.self.now) (state_of c.args.self.now) c.in-CompactStep.rows c.compact_step.result (c.compact_step.ensures c.in-CompactStep.rows))
 
 pub returns-in-DeleteStep-clause-step : goal.returns-in-DeleteStep-clause-step
 returns-in-DeleteStep-clause-step c = step.step_of _ _ _ _ _ c.in-DeleteStep.is (step.step_delete_step (state_of c.args.self.now) (state_of c.args.self.now) c.delete_step.result c.delete_step.ensures)

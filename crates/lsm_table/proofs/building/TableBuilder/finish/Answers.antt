@@ -3,8 +3,9 @@ use Rattle.lsm_block.specs.TableText.{stored, properties_text, footer_text}
 use Rattle.lsm_table.specs.Cuts.{ended}
 use Rattle.lsm_table.specs.Building.{Built}
 use Rattle.lsm_names.specs.Sessions.{is_session}
-use Rattle.lsm_table.proofs.BuiltRows.{finished, session_len, whole_made}
+use Rattle.lsm_table.proofs.BuiltRows.{finished, whole_made}
 use Rattle.lsm_table.proofs.building.TableBuilder.finish.Goals as goal
+use Rattle.lsm_names.proofs.SessionLemmas.{length_of_session}
 
 pub overflow_add-properties : goal.overflow_add-properties
 overflow_add-properties c = omega (arith, c.in_ok-ended.ensures.small, c.len.ensures.small)
@@ -25,7 +26,7 @@ returns-clause-finished c =
     let properties : ℕ = e.place + c.len.result + 5 in
     finished c.args.self rows handed e.text c.in_ok-index.index c.push_footer.new.out c.push_stored.new.out c.push_properties.new.out e.index e.place c.args.self.count properties (properties + 41 + 36) c.self.inside.smallest c.in_ok-largest.largest
     built
-    (session_len c.args.self.session (ap (λ (b : Built). is_session b.session) (sym c.self.view_is) ∙ c.in_ok-push_properties.ensures.session))
+    (length_of_session c.args.self.session (ap (λ (b : Built). is_session b.session) (sym c.self.view_is) ∙ c.in_ok-push_properties.ensures.session))
     c.requires.some
     (c.in_ok-ended.ensures.text ∙ ap (λ (b : Built). (ended b.blocks).pending) c.self.view_is)
     (c.in_ok-ended.ensures.index ∙ ap (λ (b : Built). (ended b.blocks).index) c.self.view_is)

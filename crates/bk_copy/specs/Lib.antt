@@ -1,0 +1,4 @@
+pub mod Counts
+pub mod Copying
+pub mod OnDisk
+pub mod InHand

@@ -1,0 +1,10 @@
+//! Tests of the program: scripts and what it prints for them, its faults, what it leaves on its
+//! disks, and what a crash leaves of that. The calls are in `probe`, the scripts in `scripts`.
+#![tactic(auto)]
+
+#[cfg(test)]
+mod probe;
+#[cfg(test)]
+mod scripts;
+#[cfg(test)]
+mod tests;

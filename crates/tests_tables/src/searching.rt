@@ -1,0 +1,256 @@
+//! Tables of many rows, searched and gone through in runs.
+ghost use Rattle.std.specs.Prelude.{◌≡◌, ◌≤◌, length};
+
+use crate::claims::{Stopped, sure};
+use crate::keys::key;
+use crate::numbered::{
+    MOST, are_numbered, is_deleted, is_numbered, numbered_key, numbered_sequence, table_of,
+};
+use crate::table::get;
+use crate::views::TextView;
+use lsm_block::Block;
+use lsm_rows::{InternalKey, Kind, Row, Rows};
+use lsm_table::{Table, TableFault, row_of};
+use std::alloc::Global;
+
+// How many rows are gone through in runs.
+const COUNT: u32 = 2_000;
+
+// A table that is searched for keys in their order, and the block that was read last.
+#[derive(Drop)]
+struct Search {
+    table: Table<TextView>,
+    place: u64,
+    block: Block,
+}
+
+fn read(table: &mut Table<TextView>, place: u64) -> Result<Block, TableFault> {
+    table.block(place)
+}
+
+fn locate(table: &Table<TextView>, key: &[u8]) -> Result<u64, Stopped> {
+    match table.locate(key) {
+        Some(place) => Ok(place),
+        None => Err(Stopped),
+    }
+}
+
+fn begun(mut table: Table<TextView>) -> Result<Search, Stopped> {
+    let block = read(&mut table, 0)?;
+    Ok(Search {
+        table,
+        place: 0,
+        block,
+    })
+}
+
+// Reads the block of a key, unless it was the last.
+fn moved(search: &mut Search, key: &[u8]) -> Result<(), Stopped> {
+    let place = locate(&search.table, key)?;
+    if place != search.place {
+        search.block = read(&mut search.table, place)?;
+        search.place = place;
+    }
+    Ok(())
+}
+
+fn in_block(alloc: Global, block: &Block, key: &[u8]) -> Result<Option<Row>, TableFault> {
+    Ok(row_of(alloc, block, key)?)
+}
+
+fn is_row(row: Option<Row>, number: u32) -> bool {
+    match row {
+        Some(row) => is_numbered(&row, number),
+        None => false,
+    }
+}
+
+// Whether the row with this number is in the block that its key has.
+fn is_found(alloc: Global, search: &mut Search, number: u32) -> Result<bool, Stopped> {
+    let key = numbered_key(number);
+    moved(search, &key)?;
+    Ok(is_row(in_block(alloc, &search.block, &key)?, number))
+}
+
+// Whether each row is found. Each block is read once.
+fn each_is_found(alloc: Global, table: Table<TextView>) -> Result<bool, Stopped> {
+    let mut search = begun(table)?;
+    for number in 0..MOST {
+        if !is_found(alloc, &mut search, number)? {
+            return Ok(false);
+        }
+    }
+    Ok(true)
+}
+
+// Whether `get` finds one row of each hundred.
+fn gets_find(table: &mut Table<TextView>) -> Result<bool, Stopped> {
+    for hundred in 0..100u32 {
+        let number = hundred * 100 + hundred;
+        if !is_row(get(table, &numbered_key(number))?, number) {
+            return Ok(false);
+        }
+    }
+    Ok(true)
+}
+
+// Keys that no row has.
+const ABSENT: &[&'static [u8]] = &[b"", b"\0", b"\0\0\0", b"\x13\x88\0", b"\x27\x10", b"\xff"];
+
+fn absent_have_none(table: &mut Table<TextView>) -> Result<bool, Stopped> {
+    for key in ABSENT {
+        if get(table, key)?.is_some() {
+            return Ok(false);
+        }
+    }
+    Ok(true)
+}
+
+fn ten_thousand_are_found(alloc: Global) -> Result<bool, Stopped> {
+    let mut table = table_of(alloc, MOST)?;
+    let is_told = table.properties().rows == 10_000;
+    let is_got = gets_find(&mut table)? && absent_have_none(&mut table)?;
+    Ok(is_told && is_got && each_is_found(alloc, table)?)
+}
+
+fn first_rows(table: &mut Table<TextView>, count: u32) -> Result<Rows, TableFault> {
+    table.rows(None, count)
+}
+
+fn rows_after(
+    table: &mut Table<TextView>,
+    after: &InternalKey,
+    count: u32,
+) -> Result<Rows, TableFault> {
+    table.rows(Some(after.as_slice()), count)
+}
+
+// The internal key of the row with this number.
+fn row_key(alloc: Global, number: u32) -> Result<InternalKey, Stopped> {
+    let kind = if is_deleted(number) {
+        Kind::Delete
+    } else {
+        Kind::Put
+    };
+    key(
+        alloc,
+        &numbered_key(number),
+        numbered_sequence(number),
+        kind,
+    )
+}
+
+// The run of at most so many rows that begins with this number.
+fn run_from(
+    alloc: Global,
+    table: &mut Table<TextView>,
+    number: u32,
+    count: u32,
+) -> Result<Rows, Stopped> {
+    if number == 0 {
+        return Ok(first_rows(table, count)?);
+    }
+    let before = row_key(alloc, number - 1)?;
+    Ok(rows_after(table, &before, count)?)
+}
+
+// How many rows a run of at most so many has that begins with this number.
+fn run_len(number: u32, count: u32) -> u32 {
+    count.min(COUNT.saturating_sub(number))
+}
+
+// The number behind the run of at most so many rows that begins with this number; None where it isn't the right one.
+fn number_behind(
+    alloc: Global,
+    table: &mut Table<TextView>,
+    number: u32,
+    count: u32,
+) -> Result<Option<u32>, Stopped> {
+    let rows = run_from(alloc, table, number, count)?;
+    let len = run_len(number, count);
+    if are_numbered(&rows, number, len) {
+        Ok(Some(number.saturating_add(len)))
+    } else {
+        Ok(None)
+    }
+}
+
+// Whether runs of at most so many rows give all rows in turn, and then none.
+fn is_gone_through(
+    alloc: Global,
+    table: &mut Table<TextView>,
+    count: u32,
+) -> Result<bool, Stopped> {
+    let mut number = 0u32;
+    for _run in 0..COUNT {
+        let Some(next) = number_behind(alloc, table, number, count)? else {
+            return Ok(false);
+        };
+        if next == number {
+            return Ok(number == COUNT);
+        }
+        number = next;
+    }
+    Ok(false)
+}
+
+fn no_run_is_empty(table: &mut Table<TextView>) -> Result<bool, Stopped> {
+    Ok(first_rows(table, 0)?.is_empty())
+}
+
+fn runs_give_the_rows(alloc: Global) -> Result<bool, Stopped> {
+    let mut table = table_of(alloc, COUNT)?;
+    for count in &[7u32, 1_024, 2_000, 20_000] {
+        if !is_gone_through(alloc, &mut table, *count)? {
+            return Ok(false);
+        }
+    }
+    no_run_is_empty(&mut table)
+}
+
+// Keys between rows, and the number of the row behind each: of a user key in between, and of a row's user key with
+// greater and smaller sequences.
+const BETWEEN: &[(&'static [u8], u64, u32)] = &[
+    (b"", 5, 0),
+    (b"\x01\0\0", 5, 257),
+    (b"\x01\0", 20_000, 256),
+    (b"\x01\0", 7, 257),
+    (b"\x07\xd0", 7, COUNT),
+];
+
+fn begins_behind(
+    alloc: Global,
+    table: &mut Table<TextView>,
+    user: &[u8],
+    sequence: u64,
+    number: u32,
+) -> Result<bool, Stopped> {
+    let after = key(alloc, user, sequence, Kind::Put)?;
+    let rows = rows_after(table, &after, 400)?;
+    Ok(are_numbered(&rows, number, run_len(number, 400)))
+}
+
+fn runs_begin_between(alloc: Global) -> Result<bool, Stopped> {
+    let mut table = table_of(alloc, COUNT)?;
+    for (user, sequence, number) in BETWEEN {
+        if !begins_behind(alloc, &mut table, user, *sequence, *number)? {
+            return Ok(false);
+        }
+    }
+    Ok(true)
+}
+
+#[test]
+fn each_of_ten_thousand_rows_is_found(rt: HostRuntime) {
+    sure(&rt, ten_thousand_are_found(rt.alloc()));
+}
+
+#[test]
+fn runs_of_any_length_give_the_rows_in_turn(rt: HostRuntime) {
+    sure(&rt, runs_give_the_rows(rt.alloc()));
+}
+
+#[test]
+fn a_run_begins_behind_a_key_that_is_not_there(rt: HostRuntime) {
+    sure(&rt, runs_begin_between(rt.alloc()));
+}

@@ -1,0 +1,8 @@
+use Rattle.std.proofs.Common.{◌≡◌}
+use Rattle.turn_lock.proofs.turn.Turn.wait.Given as goal
+
+-- nothing has changed
+abbrev pub invariant-loop : goal.invariant-loop
+invariant-loop g l =
+    (goal.iterator-loop g).can_next l.iterator' × (goal.iterator-loop g).is_finite l.iterator'
+    × (l.pass.seat.table_id ≡ l.fn.pass.seat.table_id) × (l.pass.seat.me ≡ l.fn.pass.seat.me)

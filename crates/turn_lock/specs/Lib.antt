@@ -1,0 +1,7 @@
+pub mod Lists
+pub mod Views
+pub mod Rule
+pub mod Steps
+pub mod Lending
+pub mod Passes
+pub mod Closing
