@@ -15,9 +15,7 @@ use Rattle.lsm_publish.specs.Publishing.{Writes}
 use Rattle.lsm_publish.proofs.Olds.{file_writes}
 use Rattle.bk_copy.specs.Counts.{AreLater}
 use Rattle.bk_copy.specs.OnDisk.{Whatever, Anything, IsFilled, HasGained, HasStopped}
-
-pub longer_twice : (f : FileState) (xs ys : List ℕ) → longer ys (longer xs f) ≡ longer (xs ++ ys) f
-longer_twice f xs ys = ap (λ (l : List ℕ). let g : FileState = record { synced = f.synced; unsynced = l } in g) (append_assoc f.unsynced xs ys)
+use Rattle.lsm_disk.proofs.Cuts.{longer_twice}
 
 pub later_same : (seen : Seen) → AreLater seen seen
 later_same seen = record { faults = omega arith; refusals = omega arith }

@@ -16,7 +16,8 @@ use Rattle.lsm_disk.specs.declared.dest.DestError.TheVariants.{Fault, Halted, Ex
 use Rattle.lsm_disk.proofs.Runs.{went_start, went_then, went_weaker}
 use Rattle.bk_copy.specs.Counts.{AreLater}
 use Rattle.bk_copy.specs.InHand.{HasInHand, Builds, IsReady, Fills, HasGained, HasStopped}
-use Rattle.bk_copy.proofs.Files.{longer_twice, later_same, later_trans}
+use Rattle.bk_copy.proofs.Files.{later_same, later_trans}
+use Rattle.lsm_disk.proofs.Cuts.{longer_twice}
 
 -- ---- names
 

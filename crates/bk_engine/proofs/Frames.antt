@@ -17,6 +17,7 @@ use Rattle.bk_tree.specs.Kept.{all_synced}
 use Rattle.bk_tree.proofs.Sparing.{within}
 use Rattle.bk_engine.specs.Copying.{Whatever, Anything, IsSealed}
 use Rattle.bk_engine.specs.Preparing.{Prepares, IsOwnPath, Apart, IsNewFile, AreNew}
+use Rattle.lsm_disk.proofs.Tree.{length_in}
 
 -- ---- one change
 
@@ -56,11 +57,6 @@ went_also {start} q P I J step j w = record {
   goes = w.goes;
   now = (w.now, subst J (sym (goes_state w.goes)) (keeps_all q J step w.goes.more (state_of start) w.goes.kind j));
 }
-
-length_in : (change : FileState → FileState) (id : ℕ) (fs : List FileState) → length (in_file change id fs) ≡ length fs
-length_in change id [] = refl
-length_in change zero (f ∷ fs) = refl
-length_in change (suc id) (f ∷ fs) = ap suc (length_in change id fs)
 
 -- a file is never taken away
 pub no_fewer : (n : ℕ) (s : State) (c : Change) → n ≤ length s.files → n ≤ length (after s c).files

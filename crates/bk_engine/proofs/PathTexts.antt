@@ -10,7 +10,7 @@ use Rattle.std.proofs.lemmas.Fmt.{digits_decimal, decimal_nonempty, length-decim
 use Rattle.std.proofs.lemmas.List.{append_assoc, length-append}
 use Rattle.std.proofs.lemmas.Slice.Eq.{bytes_eq-Decides}
 use Rattle.lsm_names.specs.Paths.{is_path, is_component, is_component_byte, is_dots}
-use Rattle.lsm_names.proofs.FileNameLemmas.{digit_is_component_byte}
+use Rattle.lsm_names.proofs.FileNameLemmas.{digit_is_component_byte, digit_is_alphanumeric}
 use Rattle.lsm_names.proofs.NumberLemmas.{digit_texts}
 use Rattle.lsm_names.proofs.PathLemmas.{list_all-append, list_all-weaker, component_of_parts, component_is_path, joined_is_path, not_dots}
 use Rattle.lsm_names.specs.FileNames.{spelled}
@@ -25,9 +25,7 @@ first_digit : (digits : List ℕ) → 0 < length digits → list_all is_ascii_di
 first_digit [] some h = absurd (omega (arith, some))
 first_digit (digit ∷ digits) some h =
     let cut = and_parts (is_ascii_digit digit) (list_all is_ascii_digit digits) h in
-    digit_is_alphanumeric digit cut.0 where
-      digit_is_alphanumeric : (byte : ℕ) → is_ascii_digit byte ≡ true → is_ascii_alphanumeric byte ≡ true
-      digit_is_alphanumeric byte h = grind (arith, nat_tests)
+    digit_is_alphanumeric digit cut.0
 
 pub short_decimal : (id : ℕ) → id < 2 ^ 32 → length (decimal id) ≤ 10
 short_decimal id small = length-decimal-le 10 id (omega arith) (omega arith) (omega arith)

@@ -174,13 +174,13 @@ module _ (folder : List ℕ) (first : ℕ) where
 
 -- ---- a folder whose name was free
 
-node_of : (o : Option Node) (id : ℕ) → id_of o ≡ Some id → o ≡ Some (File_node id)
+pub node_of : (o : Option Node) (id : ℕ) → id_of o ≡ Some id → o ≡ Some (File_node id)
 node_of None id is = cc
 node_of (Some Folder_node) id is = cc
 node_of (Some (File_node k)) id is = cc
 
 -- nothing is at a free name or inside
-nothing_in : (dir : List ℕ) (names : Names) (path : List ℕ) → IsTree names → stands names dir ≡ None → is_in dir path ≡ true → map.get names path ≡ None
+pub nothing_in : (dir : List ℕ) (names : Names) (path : List ℕ) → IsTree names → stands names dir ≡ None → is_in dir path ≡ true → map.get names path ≡ None
 nothing_in [] names path tree free inside = cc
 nothing_in (c ∷ dir) names path tree free inside = by_rest (under (c ∷ dir) path) refl inside where
   by_rest : (o : Option (List ℕ)) → under (c ∷ dir) path ≡ o → is_some o ≡ true → map.get names path ≡ None

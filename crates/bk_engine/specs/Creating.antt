@@ -1,6 +1,7 @@
 -- The creation of a backup that has no tables.
 use Rattle.std.specs.Prelude.{◌≡◌, ◌⊎◌, ℕ, ◌+◌, ◌<◌, ◌^◌, List, [], ◌∷◌, length, map, Option, Some, None, Result, Ok, Err}
 use Rattle.std.specs.List.{All}
+use Rattle.std.specs.Option.{option_map}
 use Rattle.lsm_io.specs.Causes.{Rose}
 use Rattle.lsm_bytes.specs.Checksum.{crc32c}
 use Rattle.lsm_names.specs.declared.file_names.FileName.{FileName}
@@ -19,6 +20,8 @@ use Rattle.bk_engine.specs.Shown.{Shown}
 use Rattle.bk_engine.specs.declared.errors.EngineError.{EngineError}
 use Rattle.bk_engine.specs.declared.errors.EngineError.TheVariants as engine
 use Rattle.bk_engine.specs.declared.infos.BackupInfo.{BackupInfo}
+use Rattle.bk_engine.specs.declared.plain.PlainFile.{PlainFile}
+use Rattle.bk_engine.specs.declared.plain.PlainFiles.{PlainFiles}
 use Rattle.bk_engine.specs.declared.stopping.Stop.{Stop}
 use Rattle.bk_engine.specs.declared.stopping.Stop.TheVariants as stop
 
@@ -26,6 +29,10 @@ use Rattle.bk_engine.specs.declared.stopping.Stop.TheVariants as stop
 abbrev pub plain_names : Option ℕ → ℕ → List FileName
 plain_names None manifest = Current ∷ Manifest manifest ∷ []
 plain_names (Some log) manifest = Log log ∷ Current ∷ Manifest manifest ∷ []
+
+-- the names of the files that a backup is made of
+abbrev pub file_names_of : {V : Type 0} → PlainFiles V → List FileName
+file_names_of files = plain_names (option_map (λ (file : PlainFile _). file.number) files.log) files.manifest.number
 
 -- a file of the backup's own, with the checksum of its bytes
 abbrev pub own_file : ℕ → FileName → List ℕ → MetaFile

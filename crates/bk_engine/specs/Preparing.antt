@@ -1,5 +1,6 @@
 -- The files of a backup that is being made, before its meta is published.
 use Rattle.std.specs.Prelude.{◌≡◌, ◌≢◌, ℕ, ◌+◌, ◌^◌, ◌<◌, ◌≤◌, List, [], ◌∷◌, length, Option, Some, None}
+use Rattle.std.specs.Option.{option_map}
 use Rattle.lsm_bytes.specs.Checksum.{crc32c}
 use Rattle.lsm_names.specs.declared.file_names.FileName.{FileName}
 use Rattle.lsm_names.specs.declared.file_names.FileName.TheVariants.{Log}
@@ -9,6 +10,8 @@ use Rattle.lsm_disk.specs.Viewed.{Viewed}
 use Rattle.bk_meta.specs.declared.backup_files.BackupFile.TheVariants.{Private}
 use Rattle.bk_meta.specs.declared.metas.MetaFile.{MetaFile}
 use Rattle.bk_meta.specs.BackupFiles.{path_of}
+use Rattle.bk_engine.specs.declared.plain.PlainFile.{PlainFile}
+use Rattle.bk_engine.specs.declared.plain.PlainFiles.{PlainFiles}
 use Rattle.bk_engine.specs.Copying.{IsSealed}
 use Rattle.bk_engine.specs.Paths.{own_folder}
 
@@ -65,6 +68,11 @@ log_views (Some log) = log ∷ []
 abbrev pub plain_views : Option Viewed → Viewed → Viewed → List Viewed
 plain_views None current manifest = current ∷ manifest ∷ []
 plain_views (Some log) current manifest = log ∷ current ∷ manifest ∷ []
+
+-- the views of the files that a backup is made of, as they are seen
+abbrev pub views_of : {V : Type 0} → (V → Viewed) → PlainFiles V → List Viewed
+views_of viewed files =
+    plain_views (option_map (λ (file : PlainFile _). viewed file.view) files.log) (viewed files.current) (viewed files.manifest.view)
 
 -- how many faults the views had
 abbrev pub faults_of : List Viewed → ℕ

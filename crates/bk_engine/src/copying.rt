@@ -47,7 +47,8 @@ pub(crate) fn copy_file<B: Disk, V: View>(
 ) -> Result<u32, Stop>
     ensures copied { IfOk result (λ crc. (text : List ℕ) × IsCopyOf (V.viewed view.old) crc text
         × ((story : Story) → (B.seen disk.old).told ≡ Some story
-        → Went story (B.seen disk.new).told (Writes path.now (length (state_of story).files)) Anything (IsSealed path.now (length (state_of story).files) text))) }
+        → Went story (B.seen disk.new).told (Writes path.now (length (state_of story).files)) Anything
+        (IsSealed path.now (length (state_of story).files) text))) }
     ensures fits { IfOk result (λ crc. crc < 2 ^ 32) }
     ensures went { (story : Story) → (B.seen disk.old).told ≡ Some story
         → Went story (B.seen disk.new).told (Writes path.now (length (state_of story).files)) Anything Whatever }

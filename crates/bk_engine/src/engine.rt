@@ -1,5 +1,28 @@
 //! The engine.
-ghost use Rattle.std.specs.Prelude.{◌≡◌, ◌+◌, ◌^◌, ◌<◌, ◌≤◌, ◌∷◌, ◌++◌, [], ℕ, List, All, length, map, Some, None, IsTrue, IfSome, IfOk, IfErr, OnOk, OnErr, option_map};
+ghost use Rattle.std.specs.Prelude.{
+  ◌≡◌,
+  ◌+◌,
+  ◌^◌,
+  ◌<◌,
+  ◌≤◌,
+  ◌∷◌,
+  ◌++◌,
+  [],
+  ℕ,
+  List,
+  All,
+  length,
+  map,
+  Some,
+  None,
+  IsTrue,
+  IfSome,
+  IfOk,
+  IfErr,
+  OnOk,
+  OnErr,
+  option_map,
+};
 ghost use Rattle.lsm_names.specs.FileNames.{is_file_number};
 ghost use Rattle.lsm_disk.specs.State.{Story, state_of};
 ghost use Rattle.lsm_disk.specs.Goes.{Went};
@@ -13,9 +36,9 @@ ghost use Rattle.bk_tree.specs.Kept.{IsKeptBackup};
 ghost use Rattle.bk_tree.specs.Places.{meta_folder, meta_path};
 ghost use Rattle.bk_engine.specs.Answering.{HasRefused, IsLeftBy, HaltsBy, RiseBetween};
 ghost use Rattle.bk_engine.specs.Copying.{Whatever, Anything};
-ghost use Rattle.bk_engine.specs.Creating.{info_of, plain_names, plain_meta};
+ghost use Rattle.bk_engine.specs.Creating.{info_of, file_names_of, plain_meta};
 ghost use Rattle.bk_engine.specs.Opening.{MakesRoots, HasRoots, IsFree, no_opening, IsRefusal, NoOpening};
-ghost use Rattle.bk_engine.specs.Preparing.{Prepares, AreNew, AreTexts, plain_views, faults_of};
+ghost use Rattle.bk_engine.specs.Preparing.{Prepares, AreNew, AreTexts, views_of, faults_of};
 ghost use Rattle.bk_engine.specs.Publishing.{Creates, AreOwn, NoneOrWhole};
 ghost use Rattle.bk_engine.specs.Returning.{AreSameViews};
 ghost use Rattle.bk_engine.specs.Stopping.{HasStopCause};
@@ -115,8 +138,8 @@ fn prepare<B: Disk, V: View>(
     requires some { 1 ≤ id }
     requires log { IfSome files.old.log (λ file. IsTrue (is_file_number file.number)) }
     requires manifest { IsTrue (is_file_number files.old.manifest.number) }
-    ensures made { IfOk result (λ meta. (texts : List (List ℕ)) × AreTexts (plain_views (option_map (λ file. V.viewed file.view) files.old.log) (V.viewed files.old.current) (V.viewed files.old.manifest.view)) texts
-        × (meta ≡ plain_meta id now sequence (plain_names (option_map (λ file. file.number) files.old.log) files.old.manifest.number) texts)
+    ensures made { IfOk result (λ meta. (texts : List (List ℕ)) × AreTexts (views_of V.viewed files.old) texts
+        × (meta ≡ plain_meta id now sequence (file_names_of files.old) texts)
         × ((story : Story) (first : ℕ) → (B.seen disk.old).told ≡ Some story → first ≤ length (state_of story).files
         → Went story (B.seen disk.new).told (Prepares id first) Anything (λ s. AreNew first s meta.files texts))) }
     ensures id { IfOk result (λ meta. meta.id ≡ id) }
@@ -126,9 +149,10 @@ fn prepare<B: Disk, V: View>(
     ensures went { (story : Story) (first : ℕ) → (B.seen disk.old).told ≡ Some story → first ≤ length (state_of story).files
         → Went story (B.seen disk.new).told (Prepares id first) Anything Whatever }
     // The files are as they were, whatever is answered.
-    ensures views { AreSameViews (plain_views (option_map (λ file. V.viewed file.view) files.old.log) (V.viewed files.old.current) (V.viewed files.old.manifest.view)) (plain_views (option_map (λ file. V.viewed file.view) files.new.log) (V.viewed files.new.current) (V.viewed files.new.manifest.view)) }
-    ensures names { plain_names (option_map (λ file. file.number) files.new.log) files.new.manifest.number ≡ plain_names (option_map (λ file. file.number) files.old.log) files.old.manifest.number }
-    ensures cause { HasStopCause (B.seen disk.old) (B.seen disk.new) (faults_of (plain_views (option_map (λ file. V.viewed file.view) files.old.log) (V.viewed files.old.current) (V.viewed files.old.manifest.view))) (faults_of (plain_views (option_map (λ file. V.viewed file.view) files.new.log) (V.viewed files.new.current) (V.viewed files.new.manifest.view))) result }
+    ensures views { AreSameViews (views_of V.viewed files.old) (views_of V.viewed files.new) }
+    ensures names { file_names_of files.new ≡ file_names_of files.old }
+    ensures cause { HasStopCause (B.seen disk.old) (B.seen disk.new) (faults_of (views_of V.viewed files.old))
+        (faults_of (views_of V.viewed files.new)) result }
 {
     let listed = copy_all(alloc, disk, id, files)?;
     Ok(Meta {
@@ -153,18 +177,22 @@ fn create<B: Disk, V: View>(
     requires log { IfSome files.old.log (λ file. IsTrue (is_file_number file.number)) }
     requires manifest { IsTrue (is_file_number files.old.manifest.number) }
     // The backup is of the files' bytes, where the views tell them, and outlives each crash.
-    ensures made { IfOk result (λ meta. (texts : List (List ℕ)) × AreTexts (plain_views (option_map (λ file. V.viewed file.view) files.old.log) (V.viewed files.old.current) (V.viewed files.old.manifest.view)) texts
-        × (meta ≡ plain_meta id now sequence (plain_names (option_map (λ file. file.number) files.old.log) files.old.manifest.number) texts)
-        × ((story : Story) → (B.seen disk.old).told ≡ Some story → Went story (B.seen disk.new).told (Creates id (length (state_of story).files)) Anything (λ s. IsKeptBackup s meta texts))) }
+    ensures made { IfOk result (λ meta. (texts : List (List ℕ)) × AreTexts (views_of V.viewed files.old) texts
+        × (meta ≡ plain_meta id now sequence (file_names_of files.old) texts)
+        × ((story : Story) → (B.seen disk.old).told ≡ Some story → Went story (B.seen disk.new).told
+        (Creates id (length (state_of story).files)) Anything (λ s. IsKeptBackup s meta texts))) }
     ensures lawful { IfOk result IsMeta }
-    ensures went { (story : Story) → (B.seen disk.old).told ≡ Some story → Went story (B.seen disk.new).told (Creates id (length (state_of story).files)) Anything Whatever }
+    ensures went { (story : Story) → (B.seen disk.old).told ≡ Some story → Went story (B.seen disk.new).told
+        (Creates id (length (state_of story).files)) Anything Whatever }
     // Where no crash leaves a meta of this identifier, each image on the way lists no such backup, or holds all of it.
     ensures crash { (story : Story) → (B.seen disk.old).told ≡ Some story → IsKeptName (state_of story) (meta_path id) None
-        → Went story (B.seen disk.new).told (Creates id (length (state_of story).files)) (NoneOrWhole id now sequence (plain_names (option_map (λ file. file.number) files.old.log) files.old.manifest.number) (plain_views (option_map (λ file. V.viewed file.view) files.old.log) (V.viewed files.old.current) (V.viewed files.old.manifest.view))) Whatever }
+        → Went story (B.seen disk.new).told (Creates id (length (state_of story).files))
+        (NoneOrWhole id now sequence (file_names_of files.old) (views_of V.viewed files.old)) Whatever }
     // The files are as they were, whatever is answered.
-    ensures views { AreSameViews (plain_views (option_map (λ file. V.viewed file.view) files.old.log) (V.viewed files.old.current) (V.viewed files.old.manifest.view)) (plain_views (option_map (λ file. V.viewed file.view) files.new.log) (V.viewed files.new.current) (V.viewed files.new.manifest.view)) }
-    ensures names { plain_names (option_map (λ file. file.number) files.new.log) files.new.manifest.number ≡ plain_names (option_map (λ file. file.number) files.old.log) files.old.manifest.number }
-    ensures cause { HasStopCause (B.seen disk.old) (B.seen disk.new) (faults_of (plain_views (option_map (λ file. V.viewed file.view) files.old.log) (V.viewed files.old.current) (V.viewed files.old.manifest.view))) (faults_of (plain_views (option_map (λ file. V.viewed file.view) files.new.log) (V.viewed files.new.current) (V.viewed files.new.manifest.view))) result }
+    ensures views { AreSameViews (views_of V.viewed files.old) (views_of V.viewed files.new) }
+    ensures names { file_names_of files.new ≡ file_names_of files.old }
+    ensures cause { HasStopCause (B.seen disk.old) (B.seen disk.new) (faults_of (views_of V.viewed files.old))
+        (faults_of (views_of V.viewed files.new)) result }
 {
     let own = own_folder(id);
     if let Err(why) = disk.make_folder(&own) {
@@ -188,19 +216,23 @@ fn create_kept<B: Disk, V: View>(
     requires log { IfSome files.old.log (λ file. IsTrue (is_file_number file.number)) }
     requires manifest { IsTrue (is_file_number files.old.manifest.number) }
     requires some { 1 ≤ id }
-    ensures made { IfOk result (λ info. (meta : Meta) × (texts : List (List ℕ)) × AreTexts (plain_views (option_map (λ file. V.viewed file.view) files.old.log) (V.viewed files.old.current) (V.viewed files.old.manifest.view)) texts
-        × (meta ≡ plain_meta id now sequence (plain_names (option_map (λ file. file.number) files.old.log) files.old.manifest.number) texts)
+    ensures made { IfOk result (λ info. (meta : Meta) × (texts : List (List ℕ)) × AreTexts (views_of V.viewed files.old) texts
+        × (meta ≡ plain_meta id now sequence (file_names_of files.old) texts)
         × (info ≡ info_of meta) × IsMeta meta × (metas.new.items ≡ metas.old.items ++ meta ∷ [])
-        × ((story : Story) → (B.seen disk.old).told ≡ Some story → Went story (B.seen disk.new).told (Creates id (length (state_of story).files)) Anything (λ s. IsKeptBackup s meta texts))) }
+        × ((story : Story) → (B.seen disk.old).told ≡ Some story → Went story (B.seen disk.new).told
+        (Creates id (length (state_of story).files)) Anything (λ s. IsKeptBackup s meta texts))) }
     ensures stays { OnErr result (metas.new.items ≡ metas.old.items) }
-    ensures went { (story : Story) → (B.seen disk.old).told ≡ Some story → Went story (B.seen disk.new).told (Creates id (length (state_of story).files)) Anything Whatever }
+    ensures went { (story : Story) → (B.seen disk.old).told ≡ Some story → Went story (B.seen disk.new).told
+        (Creates id (length (state_of story).files)) Anything Whatever }
     // Where no crash leaves a meta of this identifier, each image on the way lists no such backup, or holds all of it.
     ensures crash { (story : Story) → (B.seen disk.old).told ≡ Some story → IsKeptName (state_of story) (meta_path id) None
-        → Went story (B.seen disk.new).told (Creates id (length (state_of story).files)) (NoneOrWhole id now sequence (plain_names (option_map (λ file. file.number) files.old.log) files.old.manifest.number) (plain_views (option_map (λ file. V.viewed file.view) files.old.log) (V.viewed files.old.current) (V.viewed files.old.manifest.view))) Whatever }
+        → Went story (B.seen disk.new).told (Creates id (length (state_of story).files))
+        (NoneOrWhole id now sequence (file_names_of files.old) (views_of V.viewed files.old)) Whatever }
     // The files are as they were, whatever is answered.
-    ensures views { AreSameViews (plain_views (option_map (λ file. V.viewed file.view) files.old.log) (V.viewed files.old.current) (V.viewed files.old.manifest.view)) (plain_views (option_map (λ file. V.viewed file.view) files.new.log) (V.viewed files.new.current) (V.viewed files.new.manifest.view)) }
-    ensures names { plain_names (option_map (λ file. file.number) files.new.log) files.new.manifest.number ≡ plain_names (option_map (λ file. file.number) files.old.log) files.old.manifest.number }
-    ensures cause { HasStopCause (B.seen disk.old) (B.seen disk.new) (faults_of (plain_views (option_map (λ file. V.viewed file.view) files.old.log) (V.viewed files.old.current) (V.viewed files.old.manifest.view))) (faults_of (plain_views (option_map (λ file. V.viewed file.view) files.new.log) (V.viewed files.new.current) (V.viewed files.new.manifest.view))) result }
+    ensures views { AreSameViews (views_of V.viewed files.old) (views_of V.viewed files.new) }
+    ensures names { file_names_of files.new ≡ file_names_of files.old }
+    ensures cause { HasStopCause (B.seen disk.old) (B.seen disk.new) (faults_of (views_of V.viewed files.old))
+        (faults_of (views_of V.viewed files.new)) result }
 {
     metas.reserve(1)?;
     let meta = create(alloc, disk, id, files, sequence, now)?;
@@ -224,13 +256,16 @@ impl<B: Disk> BackupEngine<B> {
         ensures halt { IfOk result (λ engine. engine.halt ≡ None) }
 
         // Where the disk tells: the three folders stand, and nothing else was changed.
-        ensures made { IfOk result (λ engine. (story : Story) → (B.seen disk).told ≡ Some story → Went story engine.disk.told MakesRoots Anything HasRoots) }
-        ensures went { IfErr result (λ r. (story : Story) → (B.seen disk).told ≡ Some story → Went story (B.seen r.disk).told MakesRoots Anything Whatever) }
+        ensures made { IfOk result (λ engine. (story : Story) → (B.seen disk).told ≡ Some story
+            → Went story engine.disk.told MakesRoots Anything HasRoots) }
+        ensures went { IfErr result (λ r. (story : Story) → (B.seen disk).told ≡ Some story → Went story
+            (B.seen r.disk).told MakesRoots Anything Whatever) }
 
         // Where the disk tells: no folder of metas was there before an Ok, and each refusal is of what was there.
         ensures fresh { OnOk result ((story : Story) → (B.seen disk).told ≡ Some story → IsFree meta_folder (state_of story)) }
         ensures free { OnOk result ((story : Story) → (B.seen disk).told ≡ Some story → no_opening (state_of story) ≡ None) }
-        ensures answer { IfErr result (λ r. (story : Story) → (B.seen disk).told ≡ Some story → IsRefusal (no_opening (state_of story)) r.why) }
+        ensures answer { IfErr result (λ r. (story : Story) → (B.seen disk).told ≡ Some story → IsRefusal
+            (no_opening (state_of story)) r.why) }
         ensures cause { IfErr result (λ r. NoOpening (B.seen disk) (B.seen r.disk) r.why) }
         ensures counts { IfOk result (λ engine. AreLater (B.seen disk) engine.disk) }
         ensures counts_left { IfErr result (λ r. AreLater (B.seen disk) (B.seen r.disk)) }
@@ -262,11 +297,12 @@ impl<B: Disk> BackupEngine<B> {
 
         // The backup has the next identifier and the bytes of the files, where the views tell them, and from then on it
         // outlives each crash.
-        ensures made { IfOk result (λ info. (meta : Meta) × (texts : List (List ℕ)) × AreTexts (plain_views (option_map (λ file. V.viewed file.view) files.log) (V.viewed files.current) (V.viewed files.manifest.view)) texts
-            × (meta ≡ plain_meta (self.old.given + 1) now sequence (plain_names (option_map (λ file. file.number) files.log) files.manifest.number) texts)
+        ensures made { IfOk result (λ info. (meta : Meta) × (texts : List (List ℕ)) × AreTexts (views_of V.viewed files) texts
+            × (meta ≡ plain_meta (self.old.given + 1) now sequence (file_names_of files) texts)
             × (info ≡ info_of meta) × (self.new.metas ≡ self.old.metas ++ meta ∷ [])
             × ((story : Story) → self.old.disk.told ≡ Some story
-            → Went story self.new.disk.told (Creates (self.old.given + 1) (length (state_of story).files)) Anything (λ s. IsKeptBackup s meta texts))) }
+            → Went story self.new.disk.told (Creates (self.old.given + 1) (length (state_of story).files)) Anything
+            (λ s. IsKeptBackup s meta texts))) }
         ensures given { OnOk result (self.new.given ≡ self.old.given + 1) }
         ensures going { OnOk result (self.new.halt ≡ None) }
         ensures metas { OnErr result (self.new.metas ≡ self.old.metas) }
@@ -277,13 +313,16 @@ impl<B: Disk> BackupEngine<B> {
 
         // Where no crash leaves a meta of the next identifier, each image on the way lists no such backup, or holds all of it,
         // whatever is answered.
-        ensures crash { (story : Story) → self.old.disk.told ≡ Some story → IsKeptName (state_of story) (meta_path (self.old.given + 1)) None
-            → Went story self.new.disk.told (Creates (self.old.given + 1) (length (state_of story).files)) (NoneOrWhole (self.old.given + 1) now sequence (plain_names (option_map (λ file. file.number) files.log) files.manifest.number) (plain_views (option_map (λ file. V.viewed file.view) files.log) (V.viewed files.current) (V.viewed files.manifest.view))) Whatever }
+        ensures crash { (story : Story) → self.old.disk.told ≡ Some story → IsKeptName (state_of story)
+            (meta_path (self.old.given + 1)) None
+            → Went story self.new.disk.told (Creates (self.old.given + 1) (length (state_of story).files))
+            (NoneOrWhole (self.old.given + 1) now sequence (file_names_of files) (views_of V.viewed files)) Whatever }
 
         // The files are handed back as they were.
-        ensures views { IfErr result (λ r. AreSameViews (plain_views (option_map (λ file. V.viewed file.view) files.log) (V.viewed files.current) (V.viewed files.manifest.view)) (plain_views (option_map (λ file. V.viewed file.view) r.files.log) (V.viewed r.files.current) (V.viewed r.files.manifest.view))) }
-        ensures names { IfErr result (λ r. plain_names (option_map (λ file. file.number) r.files.log) r.files.manifest.number ≡ plain_names (option_map (λ file. file.number) files.log) files.manifest.number) }
-        ensures cause { IfErr result (λ r. HasRefused self.old self.new (faults_of (plain_views (option_map (λ file. V.viewed file.view) files.log) (V.viewed files.current) (V.viewed files.manifest.view))) (faults_of (plain_views (option_map (λ file. V.viewed file.view) r.files.log) (V.viewed r.files.current) (V.viewed r.files.manifest.view))) r.why) }
+        ensures views { IfErr result (λ r. AreSameViews (views_of V.viewed files) (views_of V.viewed r.files)) }
+        ensures names { IfErr result (λ r. file_names_of r.files ≡ file_names_of files) }
+        ensures cause { IfErr result (λ r. HasRefused self.old self.new (faults_of (views_of V.viewed files))
+            (faults_of (views_of V.viewed r.files)) r.why) }
         ensures counts { (self.old.disk.faults ≤ self.new.disk.faults) × (self.old.disk.refusals ≤ self.new.disk.refusals) }
         ensures rises { (self.old.given ≤ self.new.given) × (self.new.given ≤ self.old.given + 1) }
 

@@ -6,7 +6,21 @@ ghost use Rattle.lsm_disk.specs.Goes.{Went};
 ghost use Rattle.bk_restore.specs.Causes.{AreLater};
 ghost use Rattle.bk_tree.specs.Places.{meta_folder, private_root, shared_root};
 ghost use Rattle.bk_engine.specs.Copying.{Whatever, Anything};
-ghost use Rattle.bk_engine.specs.Opening.{IsRoot, MakesRoots, MakesFolder, HasFolder, HasRoots, IsFree, IsMissing, AreMissing, strange_by, no_opening, IsRefusal, NotMade, NoOpening};
+ghost use Rattle.bk_engine.specs.Opening.{
+  IsRoot,
+  MakesRoots,
+  MakesFolder,
+  HasFolder,
+  HasRoots,
+  IsFree,
+  IsMissing,
+  AreMissing,
+  strange_by,
+  no_opening,
+  IsRefusal,
+  NotMade,
+  NoOpening,
+};
 
 use crate::errors::EngineError;
 use crate::stopping::error_by;
@@ -45,8 +59,10 @@ fn shared_root() -> Path
 fn is_missing<B: Disk>(disk: &mut B, path: &Path) -> Result<bool, EngineError>
     requires { IsRoot path.now }
     ensures told { (B.seen disk.new).told ≡ (B.seen disk.old).told }
-    ensures missing { IfOk result (λ missing. (story : Story) → (B.seen disk.old).told ≡ Some story → IsMissing path.now missing (state_of story)) }
-    ensures answer { IfErr result (λ e. (story : Story) → (B.seen disk.old).told ≡ Some story → IsRefusal (strange_by path.now (stands (names_now (state_of story)) path.now)) e) }
+    ensures missing { IfOk result (λ missing. (story : Story) → (B.seen disk.old).told ≡ Some story → IsMissing path.now missing
+        (state_of story)) }
+    ensures answer { IfErr result (λ e. (story : Story) → (B.seen disk.old).told ≡ Some story → IsRefusal
+        (strange_by path.now (stands (names_now (state_of story)) path.now)) e) }
     ensures cause { IfErr result (NoOpening (B.seen disk.old) (B.seen disk.new)) }
     ensures counts { AreLater (B.seen disk.old) (B.seen disk.new) }
 {
@@ -67,7 +83,8 @@ fn is_missing<B: Disk>(disk: &mut B, path: &Path) -> Result<bool, EngineError>
 /// Which folders are missing, where the disk has no backups.
 fn missing_folders<B: Disk>(disk: &mut B) -> Result<Missing, EngineError>
     ensures told { (B.seen disk.new).told ≡ (B.seen disk.old).told }
-    ensures missing { IfOk result (λ missing. (story : Story) → (B.seen disk.old).told ≡ Some story → AreMissing missing.own missing.shared (state_of story)) }
+    ensures missing { IfOk result (λ missing. (story : Story) → (B.seen disk.old).told ≡ Some story
+        → AreMissing missing.own missing.shared (state_of story)) }
     ensures answer { IfErr result (λ e. (story : Story) → (B.seen disk.old).told ≡ Some story → IsRefusal (no_opening (state_of story)) e) }
     ensures cause { IfErr result (NoOpening (B.seen disk.old) (B.seen disk.new)) }
     ensures counts { AreLater (B.seen disk.old) (B.seen disk.new) }
@@ -86,8 +103,10 @@ fn make_missing<B: Disk>(disk: &mut B, path: &Path, missing: bool) -> Result<(),
     requires { IsRoot path.now }
     ensures made { OnOk result ((story : Story) → (B.seen disk.old).told ≡ Some story → IsMissing path.now missing (state_of story)
         → Went story (B.seen disk.new).told (MakesFolder path.now) Anything (HasFolder path.now)) }
-    ensures went { (story : Story) → (B.seen disk.old).told ≡ Some story → Went story (B.seen disk.new).told (MakesFolder path.now) Anything Whatever }
-    ensures answer { IfErr result (λ e. (story : Story) → (B.seen disk.old).told ≡ Some story → IsMissing path.now missing (state_of story) → IsRefusal None e) }
+    ensures went { (story : Story) → (B.seen disk.old).told ≡ Some story → Went story (B.seen disk.new).told
+        (MakesFolder path.now) Anything Whatever }
+    ensures answer { IfErr result (λ e. (story : Story) → (B.seen disk.old).told ≡ Some story → IsMissing path.now missing
+        (state_of story) → IsRefusal None e) }
     ensures cause { IfErr result (NotMade (B.seen disk.old) (B.seen disk.new)) }
     ensures counts { AreLater (B.seen disk.old) (B.seen disk.new) }
 {
@@ -108,7 +127,8 @@ fn make_missing<B: Disk>(disk: &mut B, path: &Path, missing: bool) -> Result<(),
 
 /// Makes the three folders, where none has the name of the first.
 pub(crate) fn make_folders<B: Disk>(disk: &mut B) -> Result<(), EngineError>
-    ensures made { OnOk result ((story : Story) → (B.seen disk.old).told ≡ Some story → Went story (B.seen disk.new).told MakesRoots Anything HasRoots) }
+    ensures made { OnOk result ((story : Story) → (B.seen disk.old).told ≡ Some story → Went story
+        (B.seen disk.new).told MakesRoots Anything HasRoots) }
     ensures went { (story : Story) → (B.seen disk.old).told ≡ Some story → Went story (B.seen disk.new).told MakesRoots Anything Whatever }
     ensures free { OnOk result ((story : Story) → (B.seen disk.old).told ≡ Some story → no_opening (state_of story) ≡ None) }
     ensures fresh { OnOk result ((story : Story) → (B.seen disk.old).told ≡ Some story → IsFree meta_folder (state_of story)) }

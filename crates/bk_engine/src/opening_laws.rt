@@ -11,6 +11,7 @@ ghost use Rattle.bk_engine.specs.Opening.{MakesRoots};
 /// While the three folders are made, an identifier whose meta no crash leaves isn't listed in any image of any moment, and no
 /// crash leaves its meta afterwards.
 pub fn no_backup_is_listed_by_an_opening()
-    ensures { (id : ℕ) (story : Story) (told : Option Story) → IsKeptName (state_of story) (meta_path id) None → Went story told MakesRoots Anything Whatever
+    ensures { (id : ℕ) (story : Story) (told : Option Story) → IsKeptName (state_of story) (meta_path id) None
+        → Went story told MakesRoots Anything Whatever
         → Went story told MakesRoots (λ s t. is_listed t id ≡ false) (λ s. IsKeptName s (meta_path id) None) }
 {}

@@ -8,8 +8,19 @@ ghost use Rattle.lsm_disk.specs.Tree.{TellsLawful};
 ghost use Rattle.bk_meta.specs.declared.backup_files.BackupFile.TheVariants.{Private};
 ghost use Rattle.bk_meta.specs.BackupFiles.{IsBackupFile, path_of};
 ghost use Rattle.bk_engine.specs.Copying.{Whatever, Anything, IsSameView};
-ghost use Rattle.bk_engine.specs.Creating.{plain_names, own_file, own_files};
-ghost use Rattle.bk_engine.specs.Preparing.{Prepares, IsTextOf, Apart, AreNew, AreTexts, log_names, log_views, plain_views, faults_of};
+ghost use Rattle.bk_engine.specs.Creating.{file_names_of, own_file, own_files};
+ghost use Rattle.bk_engine.specs.Preparing.{
+  Prepares,
+  IsTextOf,
+  Apart,
+  AreNew,
+  AreTexts,
+  log_names,
+  log_views,
+  plain_views,
+  views_of,
+  faults_of,
+};
 ghost use Rattle.bk_engine.specs.Returning.{AreSameViews};
 ghost use Rattle.bk_engine.specs.Stopping.{HasStopCause};
 
@@ -57,10 +68,12 @@ fn add_copy<B: Disk, V: View>(
     files: &mut MetaFiles,
 ) -> Result<(), Stop>
     requires { IsBackupFile (Private name.now) }
-    ensures copied { OnOk result ((text : List ℕ) × (crc32c text < 2 ^ 32) × IsTextOf (V.viewed view.old) text × (files.new ≡ files.old ++ own_file id name.now text ∷ [])
+    ensures copied { OnOk result ((text : List ℕ) × (crc32c text < 2 ^ 32) × IsTextOf (V.viewed view.old) text ×
+        (files.new ≡ files.old ++ own_file id name.now text ∷ [])
         × ((story : Story) (first : ℕ) (texts : List (List ℕ)) → (B.seen disk.old).told ≡ Some story → first ≤ length (state_of story).files
         → Apart (path_of id (Private name.now)) files.old → AreNew first (state_of story) files.old texts
-        → Went story (B.seen disk.new).told (Prepares id first) Anything (λ s. AreNew first s (files.old ++ own_file id name.now text ∷ []) (texts ++ text ∷ [])))) }
+        → Went story (B.seen disk.new).told (Prepares id first) Anything
+        (λ s. AreNew first s (files.old ++ own_file id name.now text ∷ []) (texts ++ text ∷ [])))) }
     ensures went { (story : Story) (first : ℕ) → (B.seen disk.old).told ≡ Some story → first ≤ length (state_of story).files
         → Went story (B.seen disk.new).told (Prepares id first) Anything Whatever }
     ensures lawful { OnOk result (TellsLawful (B.seen disk.new)) }
@@ -81,15 +94,19 @@ fn copy_log<B: Disk, V: View>(
     log: &mut Option<PlainFile<V>>,
 ) -> Result<MetaFiles, Stop>
     requires { IfSome log.old (λ file. IsTrue (is_file_number file.number)) }
-    ensures copied { IfOk result (λ files. (texts : List (List ℕ)) × AreTexts (log_views (option_map (λ file. V.viewed file.view) log.old)) texts
+    ensures copied { IfOk result (λ files. (texts : List (List ℕ)) × AreTexts
+        (log_views (option_map (λ file. V.viewed file.view) log.old)) texts
         × (files ≡ own_files id (log_names (option_map (λ file. file.number) log.old)) texts)
         × ((story : Story) (first : ℕ) → (B.seen disk.old).told ≡ Some story → first ≤ length (state_of story).files
         → Went story (B.seen disk.new).told (Prepares id first) Anything (λ s. AreNew first s files texts))) }
     ensures went { (story : Story) (first : ℕ) → (B.seen disk.old).told ≡ Some story → first ≤ length (state_of story).files
         → Went story (B.seen disk.new).told (Prepares id first) Anything Whatever }
-    ensures views { AreSameViews (log_views (option_map (λ file. V.viewed file.view) log.old)) (log_views (option_map (λ file. V.viewed file.view) log.new)) }
+    ensures views { AreSameViews (log_views (option_map (λ file. V.viewed file.view) log.old))
+        (log_views (option_map (λ file. V.viewed file.view) log.new)) }
     ensures number { option_map (λ file. file.number) log.new ≡ option_map (λ file. file.number) log.old }
-    ensures counts { HasStopCause (B.seen disk.old) (B.seen disk.new) (faults_of (log_views (option_map (λ file. V.viewed file.view) log.old))) (faults_of (log_views (option_map (λ file. V.viewed file.view) log.new))) result }
+    ensures counts { HasStopCause (B.seen disk.old) (B.seen disk.new)
+        (faults_of (log_views (option_map (λ file. V.viewed file.view) log.old)))
+        (faults_of (log_views (option_map (λ file. V.viewed file.view) log.new))) result }
 {
     let mut files = MetaFiles::new(alloc);
     match log {
@@ -111,17 +128,18 @@ pub(crate) fn copy_all<B: Disk, V: View>(
 ) -> Result<MetaFiles, Stop>
     requires log { IfSome files.old.log (λ file. IsTrue (is_file_number file.number)) }
     requires manifest { IsTrue (is_file_number files.old.manifest.number) }
-    ensures copied { IfOk result (λ listed. (texts : List (List ℕ)) × AreTexts (plain_views (option_map (λ file. V.viewed file.view) files.old.log) (V.viewed files.old.current) (V.viewed files.old.manifest.view)) texts
-        × (listed ≡ own_files id (plain_names (option_map (λ file. file.number) files.old.log) files.old.manifest.number) texts)
+    ensures copied { IfOk result (λ listed. (texts : List (List ℕ)) × AreTexts (views_of V.viewed files.old) texts
+        × (listed ≡ own_files id (file_names_of files.old) texts)
         × ((story : Story) (first : ℕ) → (B.seen disk.old).told ≡ Some story → first ≤ length (state_of story).files
         → Went story (B.seen disk.new).told (Prepares id first) Anything (λ s. AreNew first s listed texts))) }
     ensures went { (story : Story) (first : ℕ) → (B.seen disk.old).told ≡ Some story → first ≤ length (state_of story).files
         → Went story (B.seen disk.new).told (Prepares id first) Anything Whatever }
     ensures lawful { OnOk result (TellsLawful (B.seen disk.new)) }
     // The files are as they were, whatever is answered.
-    ensures views { AreSameViews (plain_views (option_map (λ file. V.viewed file.view) files.old.log) (V.viewed files.old.current) (V.viewed files.old.manifest.view)) (plain_views (option_map (λ file. V.viewed file.view) files.new.log) (V.viewed files.new.current) (V.viewed files.new.manifest.view)) }
-    ensures names { plain_names (option_map (λ file. file.number) files.new.log) files.new.manifest.number ≡ plain_names (option_map (λ file. file.number) files.old.log) files.old.manifest.number }
-    ensures cause { HasStopCause (B.seen disk.old) (B.seen disk.new) (faults_of (plain_views (option_map (λ file. V.viewed file.view) files.old.log) (V.viewed files.old.current) (V.viewed files.old.manifest.view))) (faults_of (plain_views (option_map (λ file. V.viewed file.view) files.new.log) (V.viewed files.new.current) (V.viewed files.new.manifest.view))) result }
+    ensures views { AreSameViews (views_of V.viewed files.old) (views_of V.viewed files.new) }
+    ensures names { file_names_of files.new ≡ file_names_of files.old }
+    ensures cause { HasStopCause (B.seen disk.old) (B.seen disk.new) (faults_of (views_of V.viewed files.old))
+        (faults_of (views_of V.viewed files.new)) result }
 {
     let mut listed = copy_log(alloc, disk, id, &mut files.log)?;
     add_copy(

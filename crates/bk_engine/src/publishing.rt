@@ -24,14 +24,17 @@ use std::alloc::Global;
 pub(crate) fn publish_meta<B: Disk>(alloc: Global, disk: &mut B, meta: &Meta) -> Result<(), Stop>
     requires { IsMeta meta.now }
     // After Ok the backup outlives each crash, where its files were there with their bytes synced.
-    ensures kept { OnOk result ((story : Story) (first : ℕ) (texts : List (List ℕ)) → (B.seen disk.old).told ≡ Some story → first ≤ length (state_of story).files → IsLawful (state_of story)
+    ensures kept { OnOk result ((story : Story) (first : ℕ) (texts : List (List ℕ)) → (B.seen disk.old).told ≡ Some story
+        → first ≤ length (state_of story).files → IsLawful (state_of story)
         → AreOwn meta.now.id meta.now.files → AreNew first (state_of story) meta.now.files texts
         → Went story (B.seen disk.new).told (Creates meta.now.id first) Anything (λ s. IsKeptBackup s meta.now texts)) }
     ensures went { (story : Story) (first : ℕ) → (B.seen disk.old).told ≡ Some story → first ≤ length (state_of story).files
         → Went story (B.seen disk.new).told (Creates meta.now.id first) Anything Whatever }
     // Where no crash leaves a meta of this identifier, each image on the way lists no such backup, or holds all of it.
-    ensures crash { (story : Story) (first : ℕ) (texts : List (List ℕ)) → (B.seen disk.old).told ≡ Some story → first ≤ length (state_of story).files → IsLawful (state_of story)
-        → AreOwn meta.now.id meta.now.files → AreNew first (state_of story) meta.now.files texts → IsKeptName (state_of story) (meta_path meta.now.id) None
+    ensures crash { (story : Story) (first : ℕ) (texts : List (List ℕ)) → (B.seen disk.old).told ≡ Some story → first ≤ length
+        (state_of story).files → IsLawful (state_of story)
+        → AreOwn meta.now.id meta.now.files → AreNew first (state_of story) meta.now.files texts → IsKeptName (state_of story)
+        (meta_path meta.now.id) None
         → Went story (B.seen disk.new).told (Creates meta.now.id first) (NoneOrHeld meta.now texts) Whatever }
     ensures cause { (before : ℕ) → HasStopCause (B.seen disk.old) (B.seen disk.new) before before result }
 {

@@ -53,7 +53,8 @@ pub fn kept_plain_backup_stands()
 /// identifier. So they stand for what the backup stands for.
 pub fn restored_parts_are_files()
     ensures names { (meta : Meta) (told : Option Story) (whole : List Part) → IsFolderOf meta told whole → All IsFileName (names_of whole) }
-    ensures held { (story : Story) (meta : Meta) (whole : List Part) → meta_in (tree_now (state_of story)) meta.id ≡ Some meta → IsFolderOf meta (Some story) whole
+    ensures held { (story : Story) (meta : Meta) (whole : List Part) → meta_in (tree_now (state_of story)) meta.id ≡ Some meta
+        → IsFolderOf meta (Some story) whole
         → held (tree_now (state_of story)) meta.id ≡ Some (files_of whole) }
     ensures stands { (story : Story) (meta : Meta) (whole : List Part) (files : Files) (contents : Contents) (sequence : ℕ)
         → meta_in (tree_now (state_of story)) meta.id ≡ Some meta → held (tree_now (state_of story)) meta.id ≡ Some files
@@ -64,10 +65,12 @@ pub fn restored_parts_are_files()
 pub fn restored_folder_stands()
     ensures place { (s : State) (dir : List ℕ) (whole : List Part) (t : Tree) → 1 ≤ length dir → All IsFileName (names_of whole)
         → IsBuilt dir whole s → IsImage s t → place_of dir t ≡ Stands_with (files_of whole) }
-    ensures image { (s : State) (dir : List ℕ) (whole : List Part) (contents : Contents) (sequence : ℕ) (t : Tree) → 1 ≤ length dir → All IsFileName (names_of whole)
+    ensures image { (s : State) (dir : List ℕ) (whole : List Part) (contents : Contents) (sequence : ℕ) (t : Tree)
+        → 1 ≤ length dir → All IsFileName (names_of whole)
         → IsBuilt dir whole s → Stands (files_of whole) contents sequence → IsImage s t
         → reading (place_of dir t) ≡ Ok (record { sequence = sequence; contents = contents }) }
-    ensures now { (s : State) (dir : List ℕ) (whole : List Part) (contents : Contents) (sequence : ℕ) → 1 ≤ length dir → All IsFileName (names_of whole)
+    ensures now { (s : State) (dir : List ℕ) (whole : List Part) (contents : Contents) (sequence : ℕ) → 1 ≤ length dir
+        → All IsFileName (names_of whole)
         → IsBuilt dir whole s → Stands (files_of whole) contents sequence
         → reading (place_of dir (tree_now s)) ≡ Ok (record { sequence = sequence; contents = contents }) }
 {}
@@ -76,14 +79,17 @@ pub fn restored_folder_stands()
 /// by changes that leave its names and the files that are there; by those of one file that none of its names leads to; and
 /// while another folder is built in the root.
 pub fn built_folder_stays()
-    ensures change { (s : State) (c : Change) (dir : List ℕ) (parts : List Part) → IsBuilt dir parts s → LeavesFolder dir s c → IsBuilt dir parts (after s c) }
+    ensures change { (s : State) (c : Change) (dir : List ℕ) (parts : List Part) → IsBuilt dir parts s → LeavesFolder dir s c
+        → IsBuilt dir parts (after s c) }
     ensures kind { (dir : List ℕ) (parts : List Part) (story : Story) (told : Option Story) → IsBuilt dir parts (state_of story)
         → Went story told (SparesFolder dir (length (state_of story).files)) Anything Whatever
         → Went story told (SparesFolder dir (length (state_of story).files)) (λ s t. IsWhole dir parts t) (λ s. IsBuilt dir parts s) }
-    ensures file { (dir : List ℕ) (parts : List Part) (story : Story) (told : Option Story) (id : ℕ) → HasNoNameOf dir (state_of story) id → IsBuilt dir parts (state_of story)
+    ensures file { (dir : List ℕ) (parts : List Part) (story : Story) (told : Option Story) (id : ℕ) → HasNoNameOf dir
+        (state_of story) id → IsBuilt dir parts (state_of story)
         → Went story told (InFile id) Anything Whatever
         → Went story told (InFile id) (λ s t. IsWhole dir parts t) (λ s. IsBuilt dir parts s) }
-    ensures folder { (dir other : List ℕ) (parts : List Part) (story : Story) (told : Option Story) → IsTrue (is_component dir) → IsTrue (is_component other) → other ≢ dir
+    ensures folder { (dir other : List ℕ) (parts : List Part) (story : Story) (told : Option Story) → IsTrue (is_component dir)
+        → IsTrue (is_component other) → other ≢ dir
         → IsBuilt dir parts (state_of story) → Went story told (IsWithin other (length (state_of story).files)) Anything Whatever
         → Went story told (IsWithin other (length (state_of story).files)) (λ s t. IsWhole dir parts t) (λ s. IsBuilt dir parts s) }
 {}
@@ -97,14 +103,17 @@ pub fn no_name_of_a_file_comes()
     ensures file { (dir : List ℕ) (story : Story) (told : Option Story) (id other : ℕ) → HasNoNameOf dir (state_of story) id
         → Went story told (InFile other) Anything Whatever
         → Went story told (InFile other) Anything (λ s. HasNoNameOf dir s id) }
-    ensures folder { (dir other : List ℕ) (story : Story) (told : Option Story) (id first : ℕ) → IsTrue (is_component dir) → IsTrue (is_component other) → other ≢ dir
+    ensures folder { (dir other : List ℕ) (story : Story) (told : Option Story) (id first : ℕ) → IsTrue (is_component dir)
+        → IsTrue (is_component other) → other ≢ dir
         → HasNoNameOf dir (state_of story) id → Went story told (IsWithin other first) Anything Whatever
         → Went story told (IsWithin other first) Anything (λ s. HasNoNameOf dir s id) }
 {}
 
 /// While a folder is built whose name was free, no name at it or in it leads to an older file.
 pub fn a_new_folder_has_new_files()
-    ensures { (dir : List ℕ) (story : Story) (told : Option Story) → IsLawful (state_of story) → stands (names_now (state_of story)) dir ≡ None
+    ensures { (dir : List ℕ) (story : Story) (told : Option Story) → IsLawful (state_of story) → stands
+        (names_now (state_of story)) dir ≡ None
         → Went story told (IsWithin dir (length (state_of story).files)) Anything Whatever
-        → Went story told (IsWithin dir (length (state_of story).files)) Anything (λ s. (id : ℕ) → id < length (state_of story).files → HasNoNameOf dir s id) }
+        → Went story told (IsWithin dir (length (state_of story).files)) Anything
+        (λ s. (id : ℕ) → id < length (state_of story).files → HasNoNameOf dir s id) }
 {}

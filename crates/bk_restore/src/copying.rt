@@ -26,13 +26,16 @@ pub(crate) fn copy_bytes<T: Dest, V: View>(
         × ((start : State) (story : Story) (begun : Begun) (parts : List Part) (name : FileName) → (T.seen dest.old).disk.told ≡ Some story
         → HasInHand begun name (T.seen dest.old) → IsWriting start begun parts name new_file (state_of story)
         → Builds start begun.folder story (T.seen dest.new).disk.told (IsWriting start begun parts name (longer text new_file)))) }
-    ensures went { (start : State) (story : Story) (begun : Begun) (parts : List Part) (name : FileName) → (T.seen dest.old).disk.told ≡ Some story
+    ensures went { (start : State) (story : Story) (begun : Begun) (parts : List Part) (name : FileName) →
+        (T.seen dest.old).disk.told ≡ Some story
         → HasInHand begun name (T.seen dest.old) → IsWriting start begun parts name new_file (state_of story)
         → Builds start begun.folder story (T.seen dest.new).disk.told (IsUnfinished start begun.folder) }
-    ensures keeps { OnOk result ((begun : Begun) (name : FileName) → HasInHand begun name (T.seen dest.old) → HasInHand begun name (T.seen dest.new)) }
+    ensures keeps { OnOk result ((begun : Begun) (name : FileName) → HasInHand begun name (T.seen dest.old)
+        → HasInHand begun name (T.seen dest.new)) }
     ensures kind { IfErr result IsOfCopying }
     ensures view { IsSameView (V.viewed view.old) (V.viewed view.new) }
-    ensures cause { HasCauses (counts_of (V.viewed view.old)) (counts_of (V.viewed view.new)) (T.seen dest.old).disk (T.seen dest.new).disk result }
+    ensures cause { HasCauses (counts_of (V.viewed view.old)) (counts_of (V.viewed view.new)) (T.seen dest.old).disk
+        (T.seen dest.new).disk result }
     ensures more { (first : T) → T.leads first dest.old → T.leads first dest.new }
 {
     match copy_view(alloc, dest, &InHand, view) {

@@ -43,14 +43,17 @@ fn copy_view<T: Dest, V: View>(
     ensures copied { IfOk result (λ crc. (text : List ℕ) × IsCopyOf (V.viewed view.old) crc text
         × ((start : State) (story : Story) (begun : Begun) (parts : List Part) → (T.seen dest.old).disk.told ≡ Some story
         → IsReady begun (T.seen dest.old) → IsBuilding start begun parts (state_of story)
-        → Builds start begun.folder story (T.seen dest.new).disk.told (IsWriting start (with_name name.now begun) parts name.now (longer text new_file)))) }
+        → Builds start begun.folder story (T.seen dest.new).disk.told
+        (IsWriting start (with_name name.now begun) parts name.now (longer text new_file)))) }
     ensures went { (start : State) (story : Story) (begun : Begun) (parts : List Part) → (T.seen dest.old).disk.told ≡ Some story
         → IsReady begun (T.seen dest.old) → IsBuilding start begun parts (state_of story)
         → Builds start begun.folder story (T.seen dest.new).disk.told (IsUnfinished start begun.folder) }
-    ensures keeps { OnOk result ((begun : Begun) → IsReady begun (T.seen dest.old) → HasInHand (with_name name.now begun) name.now (T.seen dest.new)) }
+    ensures keeps { OnOk result ((begun : Begun) → IsReady begun (T.seen dest.old) → HasInHand
+        (with_name name.now begun) name.now (T.seen dest.new)) }
     ensures kind { IfErr result IsOfCopying }
     ensures view { IsSameView (V.viewed view.old) (V.viewed view.new) }
-    ensures cause { HasCauses (counts_of (V.viewed view.old)) (counts_of (V.viewed view.new)) (T.seen dest.old).disk (T.seen dest.new).disk result }
+    ensures cause { HasCauses (counts_of (V.viewed view.old)) (counts_of (V.viewed view.new)) (T.seen dest.old).disk
+        (T.seen dest.new).disk result }
     ensures more { (first : T) → T.leads first dest.old → T.leads first dest.new }
 {
     if let Err(why) = dest.file(name) {
@@ -74,11 +77,13 @@ fn copy_file<B: Disk, T: Dest>(
     ensures copied { IfOk result (λ crc. (text : List ℕ) × IsTextOf (B.seen disk.old).told file.now which.now crc text
         × ((start : State) (story : Story) (begun : Begun) (parts : List Part) → (T.seen dest.old).disk.told ≡ Some story
         → IsReady begun (T.seen dest.old) → IsBuilding start begun parts (state_of story)
-        → Builds start begun.folder story (T.seen dest.new).disk.told (IsWriting start (with_name (store_name which.now) begun) parts (store_name which.now) (longer text new_file)))) }
+        → Builds start begun.folder story (T.seen dest.new).disk.told
+        (IsWriting start (with_name (store_name which.now) begun) parts (store_name which.now) (longer text new_file)))) }
     ensures went { (start : State) (story : Story) (begun : Begun) (parts : List Part) → (T.seen dest.old).disk.told ≡ Some story
         → IsReady begun (T.seen dest.old) → IsBuilding start begun parts (state_of story)
         → Builds start begun.folder story (T.seen dest.new).disk.told (IsUnfinished start begun.folder) }
-    ensures keeps { OnOk result ((begun : Begun) → IsReady begun (T.seen dest.old) → HasInHand (with_name (store_name which.now) begun) (store_name which.now) (T.seen dest.new)) }
+    ensures keeps { OnOk result ((begun : Begun) → IsReady begun (T.seen dest.old) → HasInHand
+        (with_name (store_name which.now) begun) (store_name which.now) (T.seen dest.new)) }
     ensures wrong { IfErr result (IsToldOf (B.seen disk.old).told file.now which.now) }
     ensures past { IfErr result IsPastBegin }
     ensures cause { HasCauses (B.seen disk.old) (B.seen disk.new) (T.seen dest.old).disk (T.seen dest.new).disk result }
@@ -103,14 +108,18 @@ pub(crate) fn restore_file<B: Disk, T: Dest>(
 ) -> Result<(), RestoreError>
     requires { (begun : Begun) × IsReady begun (T.seen dest.old) × IsNewName begun (store_name which.now) }
     ensures told { (B.seen disk.new).told ≡ (B.seen disk.old).told }
-    ensures restored { OnOk result ((text : List ℕ) × ((id : ℕ) → file_at id file.now.path ≡ Some which.now → IsRestored id (B.seen disk.old).told file.now (part_of which.now text))
+    ensures restored { OnOk result ((text : List ℕ) ×
+        ((id : ℕ) → file_at id file.now.path ≡ Some which.now → IsRestored id (B.seen disk.old).told file.now
+        (part_of which.now text))
         × ((start : State) (story : Story) (begun : Begun) (parts : List Part) → (T.seen dest.old).disk.told ≡ Some story
         → IsReady begun (T.seen dest.old) → IsBuilding start begun parts (state_of story)
-        → Builds start begun.folder story (T.seen dest.new).disk.told (IsBuilding start (with_name (store_name which.now) begun) (parts ++ part_of which.now text ∷ [])))) }
+        → Builds start begun.folder story (T.seen dest.new).disk.told
+        (IsBuilding start (with_name (store_name which.now) begun) (parts ++ part_of which.now text ∷ [])))) }
     ensures went { (start : State) (story : Story) (begun : Begun) (parts : List Part) → (T.seen dest.old).disk.told ≡ Some story
         → IsReady begun (T.seen dest.old) → IsBuilding start begun parts (state_of story)
         → Builds start begun.folder story (T.seen dest.new).disk.told (IsUnfinished start begun.folder) }
-    ensures keeps { OnOk result ((begun : Begun) → IsReady begun (T.seen dest.old) → IsReady (with_name (store_name which.now) begun) (T.seen dest.new)) }
+    ensures keeps { OnOk result ((begun : Begun) → IsReady begun (T.seen dest.old) → IsReady
+        (with_name (store_name which.now) begun) (T.seen dest.new)) }
     ensures wrong { IfErr result (IsToldOf (B.seen disk.old).told file.now which.now) }
     ensures past { IfErr result IsPastBegin }
     ensures cause { HasCauses (B.seen disk.old) (B.seen disk.new) (T.seen dest.old).disk (T.seen dest.new).disk result }

@@ -13,7 +13,8 @@ ghost use Rattle.bk_restore.specs.Held.{files_of, current_first};
 /// The parts of a restored folder are the files that the backup disk's tree holds under the
 /// meta's identifier, but that `CURRENT` comes first.
 pub fn restored_parts_are_held()
-    ensures { (story : Story) (meta : Meta) (whole : List Part) → meta_in (tree_now (state_of story)) meta.id ≡ Some meta → IsFolderOf meta (Some story) whole
+    ensures { (story : Story) (meta : Meta) (whole : List Part) → meta_in (tree_now (state_of story)) meta.id ≡ Some meta
+        → IsFolderOf meta (Some story) whole
         → (parts : List Part) × (whole ≡ current_first parts) × (held (tree_now (state_of story)) meta.id ≡ Some (files_of parts)) }
 {}
 

@@ -12,7 +12,17 @@ ghost use Rattle.bk_restore.specs.Causes.{HasCauses, silent};
 ghost use Rattle.bk_restore.specs.Refusals.{IsPastBegin};
 ghost use Rattle.bk_restore.specs.Wrong.{currents, in_order, first_wrong, IsToldFirst, Tells};
 ghost use Rattle.bk_restore.specs.Hands.{IsReady};
-ghost use Rattle.bk_restore.specs.Restored.{AreRestored, AreMetaFiles, MayHaveEnded, EndsBy, MayHaveRestored, LeavesBy, BeginsBy, IsBegunBy, TakesBy};
+ghost use Rattle.bk_restore.specs.Restored.{
+  AreRestored,
+  AreMetaFiles,
+  MayHaveEnded,
+  EndsBy,
+  MayHaveRestored,
+  LeavesBy,
+  BeginsBy,
+  IsBegunBy,
+  TakesBy,
+};
 
 use crate::RestoreError;
 use crate::current::{current_of, read_current};
@@ -29,7 +39,8 @@ fn begin<T: Dest>(dest: &mut T, dir: &Folder) -> Result<(), RestoreError>
     ensures taken { TakesBy dir.now (T.seen dest.old).disk.told result }
     ensures ready { OnOk result (IsReady (just_begun dir.now) (T.seen dest.new)) }
     ensures went { (story : Story) → (T.seen dest.old).disk.told ≡ Some story
-        → Went story (T.seen dest.new).disk.told (IsWithin dir.now (length (state_of story).files)) (HasNoCurrent (state_of story) dir.now) (BeginsBy (state_of story) dir.now result) }
+        → Went story (T.seen dest.new).disk.told (IsWithin dir.now (length (state_of story).files))
+        (HasNoCurrent (state_of story) dir.now) (BeginsBy (state_of story) dir.now result) }
     ensures kind { IfErr result IsBegunBy }
     ensures cause { HasCauses silent silent (T.seen dest.old).disk (T.seen dest.new).disk result }
     ensures more { (first : T) → T.leads first dest.old → T.leads first dest.new }
@@ -54,7 +65,8 @@ fn restore_current<B: Disk, T: Dest>(
     ensures told { (B.seen disk.new).told ≡ (B.seen disk.old).told }
     ensures went { (start : State) (story : Story) (begun : Begun) (parts : List Part) → (T.seen dest.old).disk.told ≡ Some story
         → IsReady begun (T.seen dest.old) → IsBuilding start begun parts (state_of story)
-        → Went story (T.seen dest.new).disk.told (IsWithin begun.folder (length start.files)) (MayHaveEnded id (B.seen disk.old).told (currents id files.now) start begun.folder parts)
+        → Went story (T.seen dest.new).disk.told (IsWithin begun.folder (length start.files))
+        (MayHaveEnded id (B.seen disk.old).told (currents id files.now) start begun.folder parts)
         (EndsBy id (B.seen disk.old).told (currents id files.now) start begun.folder parts result) }
     ensures restored { OnOk result ((part : Part) × AreRestored id (B.seen disk.old).told (currents id files.now) (part ∷ [])) }
     ensures wrong { IfErr result (IsToldFirst id (B.seen disk.old).told (currents id files.now)) }
@@ -92,9 +104,11 @@ pub fn restore<B: Disk, T: Dest>(
     ensures sequence { IfOk result (λ sequence. sequence ≡ meta.now.sequence) }
     ensures halted { (first : Halt) → (result ≡ Err (restore_error.Halted first)) ↔ ((T.seen dest.old).halt ≡ Some first) }
     ensures taken { TakesBy dir.now (T.seen dest.old).disk.told result }
-    ensures right { IfSome (B.seen disk.old).told (λ story. Tells (first_wrong meta.now.id (tree_now (state_of story)) (in_order meta.now.id meta.now.files)) result) }
+    ensures right { IfSome (B.seen disk.old).told
+        (λ story. Tells (first_wrong meta.now.id (tree_now (state_of story)) (in_order meta.now.id meta.now.files)) result) }
     ensures went { (story : Story) → (T.seen dest.old).disk.told ≡ Some story
-        → Went story (T.seen dest.new).disk.told (IsWithin dir.now (length (state_of story).files)) (MayHaveRestored meta.now (B.seen disk.old).told (state_of story) dir.now)
+        → Went story (T.seen dest.new).disk.told (IsWithin dir.now (length (state_of story).files))
+        (MayHaveRestored meta.now (B.seen disk.old).told (state_of story) dir.now)
         (LeavesBy meta.now (B.seen disk.old).told (state_of story) dir.now result) }
     ensures cause { HasCauses (B.seen disk.old) (B.seen disk.new) (T.seen dest.old).disk (T.seen dest.new).disk result }
     ensures more { (first : T) → T.leads first dest.old → T.leads first dest.new }

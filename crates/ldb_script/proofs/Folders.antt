@@ -33,6 +33,7 @@ use Rattle.lsm_dest.proofs.Places.{inside_folder, folder_itself}
 use Rattle.lsm_publish.specs.Publishing.{Not_known, HasOld, HasOldOrNew, IsMove, Writes, Switches, IsReady, IsPublished}
 use Rattle.ldb_script.specs.Stored.{log_path, manifest_path, current_path, temporary_path, first_manifest, first_current, whole_file}
 use Rattle.ldb_script.specs.Filling.{IsFreeFolder, AddsFile, Fills, HasOnly, HasManifest, HasTemporary, HasCurrent}
+use Rattle.lsm_publish.proofs.Olds.{within}
 
 -- ---- names
 
@@ -109,11 +110,6 @@ names_in_file s id (Appended k bytes) is = refl
 names_in_file s id (Synced k) is = refl
 names_in_file s id Names_synced is = absurd is
 names_in_file s id Idle is = refl
-
-within : (fs : List FileState) (id : ℕ) (f : FileState) → slice_get fs id ≡ Some f → id < length fs
-within [] id f is = cc
-within (g ∷ fs) zero f is = omega arith
-within (g ∷ fs) (suc id) f is = omega (arith, within fs id f is)
 
 others_in_file : (s : State) (id k : ℕ) (f : FileState) (c : Change) → k ≢ id → InFile id c → slice_get s.files k ≡ Some f → slice_get (after s c).files k ≡ Some f
 others_in_file s id k f (Created path) ne is there = absurd is

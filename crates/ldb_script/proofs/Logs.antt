@@ -19,7 +19,7 @@ use Rattle.lsm_disk.proofs.Images.{reads_image}
 use Rattle.lsm_disk.proofs.Runs.{state_push}
 use Rattle.lsm_wal.specs.Batches.{Logged, text_of, wal_text, in_sequence}
 use Rattle.lsm_wal.specs.Standing.{IsWal, IsLeft}
-use Rattle.lsm_wal.proofs.Texts.{text_push}
+use Rattle.lsm_wal.proofs.Texts.{text_push, sequence_length}
 use Prim.Native.Nat.{suc}
 use Rattle.ldb_script.specs.Plain.{Outcome, written, with_batch, both}
 use Rattle.ldb_script.specs.Stored.{Shown, Stands, Logs, FilesBeside, Keeps, log_of}
@@ -45,10 +45,6 @@ pub numbered_push : (first : ℕ) (batches : List (List Op)) (batch : List Op) �
 numbered_push first [] batch = refl
 numbered_push first (ops ∷ batches) batch = ap (λ (bs : List Logged). (record { first = first; ops = ops }) ∷ bs) (numbered_push (first + length ops) batches batch)
 
-pub numbered_length : (first : ℕ) (batches : List (List Op)) → length (in_sequence first batches) ≡ length batches
-numbered_length first [] = refl
-numbered_length first (ops ∷ batches) = ap suc (numbered_length (first + length ops) batches)
-
 module _ (accepted : List (List Op)) (batch : List Op) where
   abbrev pub next : Logged
   next = record { first = sequence_after 0 accepted + 1; ops = batch }
@@ -73,7 +69,7 @@ module _ (start : Option Story) (old new : Shown) (outcome : Outcome) (was : Sta
   behind_is = ap (λ (n : ℕ). let b : Logged = record { first = n + 1; ops = batch } in b) (was.sequence ∙ was.counted)
 
   durable_is : (sync : Bool) → (if sync then length (in_sequence 1 outcome.accepted ++ next outcome.accepted batch ∷ []) else outcome.after.durable) ≡ (with_batch outcome.after sync batch).durable
-  durable_is true = length-append (in_sequence 1 outcome.accepted) (next outcome.accepted batch ∷ []) ∙ ap (λ (n : ℕ). n + 1) (numbered_length 1 outcome.accepted ∙ sym was.batches)
+  durable_is true = length-append (in_sequence 1 outcome.accepted) (next outcome.accepted batch ∷ []) ∙ ap (λ (n : ℕ). n + 1) (sequence_length 1 outcome.accepted ∙ sym was.batches)
   durable_is false = refl
 
   -- the log of the disk, where it told one
@@ -165,7 +161,7 @@ module _ (start : Option Story) (old new : Shown) (outcome : Outcome) (was : Sta
         tells = makes ∙ ap (option_map (pushed (file_synced old.log))) logs.tells;
         wal =
             subst (λ (p : List ℕ). IsWal (state_of (pushed (file_synced old.log) logs.story)) p (in_sequence 1 outcome.accepted) outcome.after.batches) (sym same)
-            (subst (IsWal (state_of (pushed (file_synced old.log) logs.story)) old.log (in_sequence 1 outcome.accepted)) (numbered_length 1 outcome.accepted ∙ sym was.batches)
+            (subst (IsWal (state_of (pushed (file_synced old.log) logs.story)) old.log (in_sequence 1 outcome.accepted)) (sequence_length 1 outcome.accepted ∙ sym was.batches)
             (subst (λ (s : State). IsWal s old.log (in_sequence 1 outcome.accepted) (length (in_sequence 1 outcome.accepted))) (sym (state_push logs.story (file_synced old.log (state_of logs.story))))
             (wal_synced (state_of logs.story) old.log (in_sequence 1 outcome.accepted) outcome.after.durable logs.wal)));
       }
@@ -203,7 +199,7 @@ module _ (start : Option Story) (old new : Shown) (outcome : Outcome) (was : Sta
 pub keeps : (told : Option Story) (path : List ℕ) (accepted : List (List Op)) (durable : ℕ) → durable ≡ length accepted → Logs told path accepted durable → Keeps told path (log_of accepted)
 unfolding log_of
 keeps told path accepted durable all logs =
-    let wal = subst (IsWal (state_of logs.story) path (in_sequence 1 accepted)) (all ∙ sym (numbered_length 1 accepted)) logs.wal in record {
+    let wal = subst (IsWal (state_of logs.story) path (in_sequence 1 accepted)) (all ∙ sym (sequence_length 1 accepted)) logs.wal in record {
       story = logs.story;
       tells = logs.tells;
       now = wal_now (state_of logs.story) path (in_sequence 1 accepted) wal;

@@ -34,7 +34,7 @@ use Rattle.bk_tree.proofs.Sparing.{within}
 use Rattle.bk_restore.specs.Held.{files_of}
 use Rattle.bk_engine.specs.Copying.{Anything}
 use Rattle.bk_engine.proofs.StandingKept.{went_keeping, out_of, roots_apart, stays_beside}
-use Rattle.bk_engine.proofs.StandingNew.{HasNewFiles, new_after}
+use Rattle.bk_engine.proofs.StandingNew.{HasNewFiles, new_after, node_of, nothing_in}
 use Rattle.ldb_script.specs.Printed.{Backup, restored_line}
 use Rattle.ldb_script.specs.Plain.{Plain, Outcome, Restored, Standing, Free, Reads, Taken, standing_among, standing_told, shown_now, restored, both}
 use Rattle.ldb_script.specs.Stored.{Shown, Stands, Logs, FilesBeside, IsBeside, log_path, manifest_path, current_path, first_manifest, first_current, whole_file}
@@ -259,23 +259,11 @@ module _ (first s : State) (log : List ℕ) (plain : Plain) (has : HasFolders fi
 
 -- ---- the restored folder's files are new
 
-nothing_in : (dir : List ℕ) (names : Names) (path : List ℕ) → IsTree names → stands names dir ≡ None → is_in dir path ≡ true → map.get names path ≡ None
-nothing_in [] names path tree free inside = cc
-nothing_in (c ∷ dir) names path tree free inside = by_rest (under (c ∷ dir) path) refl inside where
-  by_rest : (o : Option (List ℕ)) → under (c ∷ dir) path ≡ o → is_some o ≡ true → map.get names path ≡ None
-  by_rest None is some = cc
-  by_rest (Some rest) is some = ap (map.get names) (under_is (c ∷ dir) path rest is) ∙ free_at names (c ∷ dir) rest tree free (under_tail (c ∷ dir) path rest is)
-
 -- what stands inside, stood there before
 same_inside : (dir : List ℕ) (names before : Names) (path : List ℕ) → stands before dir ≡ None → is_in dir path ≡ true → stands names path ≡ stands before path → map.get names path ≡ map.get before path
 same_inside [] names before path free inside same = cc
 same_inside (d ∷ dir) names before [] free inside same = cc
 same_inside (d ∷ dir) names before (c ∷ path) free inside same = same
-
-file_of : (o : Option Node) (id : ℕ) → id_of o ≡ Some id → o ≡ Some (File_node id)
-file_of None id is = cc
-file_of (Some Folder_node) id is = cc
-file_of (Some (File_node k)) id is = cc
 
 -- ---- the folders
 
@@ -319,7 +307,7 @@ module _ (first : State) (a : Story) (told : Option Story) (P : State → Tree �
           let same : early ≡ id = same_some early id (sym at ∙ leads) in
           All-weaker (IsKeptPart name (state_of w.story)) (λ (part : Part). file_at (state_of w.story) (path_in name part.name) ≢ Some id)
           (λ part kept there.
-          let late : count ≤ id = new_files.new (path_in name part.name) id (inside_folder name (spelled part.name)) (file_of (map.get (names_now (state_of w.story)) (path_in name part.name)) id there) in
+          let late : count ≤ id = new_files.new (path_in name part.name) id (inside_folder name (spelled part.name)) (node_of (map.get (names_now (state_of w.story)) (path_in name part.name)) id there) in
           absurd (omega (arith, late, low, same))) whole built.each;
     }
 

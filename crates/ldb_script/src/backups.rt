@@ -2,8 +2,8 @@
 ghost use Rattle.std.specs.Prelude.{◌≡◌, List, ℕ, Option, None, IsTrue, IsSome, IfSome, IfOk, IfErr, option_map};
 ghost use Rattle.lsm_names.specs.FileNames.{is_file_number};
 ghost use Rattle.lsm_disk.specs.State.{Story};
-ghost use Rattle.bk_engine.specs.Creating.{plain_names};
-ghost use Rattle.bk_engine.specs.Preparing.{plain_views, faults_of};
+ghost use Rattle.bk_engine.specs.Creating.{file_names_of};
+ghost use Rattle.bk_engine.specs.Preparing.{views_of, faults_of};
 ghost use Rattle.bk_engine.specs.declared.errors.EngineError.TheVariants as errors;
 ghost use Rattle.ldb_script.specs.Backing.{OpensOr, ArePlain, IsCreated, UncreatedBy};
 ghost use Rattle.ldb_script.specs.Opening.{SeenStay, ByOneLine};
@@ -101,16 +101,11 @@ impl<B: Disk> Backups<B> {
             (left : Option (List ℕ))
             → Backs start self.old plain → sequence ≡ plain.sequence
             → (IsTrue plain.start.tells
-            → ArePlain plain (plain_names (option_map (λ file. file.number) files.log)
-            files.manifest.number) (plain_views
-            (option_map (λ file. V.viewed file.view) files.log)
-            (V.viewed files.current) (V.viewed files.manifest.view)))
+            → ArePlain plain (file_names_of files) (views_of V.viewed files))
             → IsCreated start self.new plain now left info) }
         ensures refused { IfErr result (λ r. (start : Option Story) (plain : Plain)
             → Backs start self.old plain
-            → UncreatedBy self.old self.new plain (faults_of (plain_views
-            (option_map (λ file. V.viewed file.view) r.files.log)
-            (V.viewed r.files.current) (V.viewed r.files.manifest.view))) r.why) }
+            → UncreatedBy self.old self.new plain (faults_of (views_of V.viewed r.files)) r.why) }
         ensures counts { SeenStay self.old.disk self.new.disk }
     {
         match &mut self.held {

@@ -3,7 +3,7 @@ ghost use Rattle.std.specs.Prelude.{◌≡◌, ◌<◌, ℕ, None, IfOk, IfErr, 
 ghost use Rattle.lsm_io.specs.Causes.{Rose};
 ghost use Rattle.lsm_disk.specs.Refusals.{no_view};
 ghost use Rattle.lsm_disk.specs.Viewed.{opened};
-ghost use Rattle.bk_engine.specs.Preparing.{plain_views, log_views, faults_of};
+ghost use Rattle.bk_engine.specs.Preparing.{views_of, log_views, faults_of};
 ghost use Rattle.ldb_script.specs.Stored.{current_path, manifest_path};
 ghost use Rattle.ldb_script.specs.Opening.{SeenStay};
 ghost use Rattle.ldb_script.specs.Files.{where_any, HasPair, HasViews, IsRefused};
@@ -122,9 +122,7 @@ fn close_log<D: Disk>(disk: &mut D, log: Option<PlainFile<D::View>>)
 // Takes the views back. One that had a fault raises the disk's count.
 pub(crate) fn close_files<D: Disk>(disk: &mut D, files: PlainFiles<D::View>)
     ensures told { (D.seen disk.new).told ≡ (D.seen disk.old).told }
-    ensures faults { 0 < faults_of (plain_views
-        (option_map (λ file. D.View.viewed file.view) files.log)
-        (D.View.viewed files.current) (D.View.viewed files.manifest.view))
+    ensures faults { 0 < faults_of (views_of D.View.viewed files)
         → Rose (D.seen disk.old).faults (D.seen disk.new).faults }
     ensures counts { SeenStay (D.seen disk.old) (D.seen disk.new) }
 {

@@ -3,7 +3,27 @@ ghost use Rattle.std.specs.Prelude.{◌≡◌, ◌==◌, ◌∷◌, ℕ, IfOk, m
 ghost use Rattle.std.specs.List.{slice_split};
 ghost use Rattle.std.specs.Option.{option_map};
 ghost use Rattle.ldb_script.specs.Words.{bytes_of_word};
-ghost use Rattle.ldb_script.specs.Script.{is_blank, a_put, a_delete, first_operation, words_in, operations, write_of, a_get, a_bare, a_write, folder_of, is_spelled_identifier, identifier_of, a_show, a_restore, a_backup, command_of, line_of_words, line_of};
+ghost use Rattle.ldb_script.specs.Script.{
+  is_blank,
+  a_put,
+  a_delete,
+  first_operation,
+  words_in,
+  operations,
+  write_of,
+  a_get,
+  a_bare,
+  a_write,
+  folder_of,
+  is_spelled_identifier,
+  identifier_of,
+  a_show,
+  a_restore,
+  a_backup,
+  command_of,
+  line_of_words,
+  line_of,
+};
 
 use crate::operations::Operations;
 use crate::words::{all_words, bytes_of_word, is_actor, split_words};

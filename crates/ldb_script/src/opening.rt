@@ -7,7 +7,18 @@ ghost use Rattle.lsm_disk.specs.Tree.{TellsLawful};
 ghost use Rattle.lsm_publish.specs.Publishing.{write_calls, switch_calls};
 ghost use Rattle.ldb_script.specs.declared.opening.OpenError.TheVariants as open_errors;
 ghost use Rattle.ldb_script.specs.Stored.{log_path, current_path, temporary_path, first_manifest, first_current};
-ghost use Rattle.ldb_script.specs.Opening.{SeenStay, IsFree, open_error, MakesOr, Leads, IsHindered, file_calls, manifest_calls, log_calls, filling_calls};
+ghost use Rattle.ldb_script.specs.Opening.{
+  SeenStay,
+  IsFree,
+  open_error,
+  MakesOr,
+  Leads,
+  IsHindered,
+  file_calls,
+  manifest_calls,
+  log_calls,
+  filling_calls,
+};
 ghost use Rattle.ldb_script.specs.Filling.{IsFreeFolder, AddsFile, Fills, HasManifest, HasTemporary, HasCurrent, HasStore};
 
 use lsm_bytes::{Bytes, NoMemory};

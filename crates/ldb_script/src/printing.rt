@@ -1,7 +1,25 @@
 //! The lines that a script prints.
 ghost use Rattle.std.specs.Prelude.{◌≡◌, ◌++◌, IfOk, OnOk};
 ghost use Rattle.std.specs.Option.{option_map};
-ghost use Rattle.ldb_script.specs.Printed.{with_newline, sequence_line, value_line, pair_line, end_line, state_line, ok_line, what_name, too_large_line, bad_line, backup_line, line_of_info, restored_line, no_folder_line, exists_line, no_backup_line, ids_full_line};
+ghost use Rattle.ldb_script.specs.Printed.{
+  with_newline,
+  sequence_line,
+  value_line,
+  pair_line,
+  end_line,
+  state_line,
+  ok_line,
+  what_name,
+  too_large_line,
+  bad_line,
+  backup_line,
+  line_of_info,
+  restored_line,
+  no_folder_line,
+  exists_line,
+  no_backup_line,
+  ids_full_line,
+};
 
 use crate::ending::call_name;
 use crate::words::push_shown;

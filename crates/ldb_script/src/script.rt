@@ -37,7 +37,21 @@ ghost use Rattle.ldb_script.specs.Vaults.{Vault};
 ghost use Rattle.ldb_script.specs.Opening.{HasRoom, ByOneLine};
 ghost use Rattle.ldb_script.specs.Run.{Stream, Met, now, stream, met, CountsStay, IsRun};
 ghost use Rattle.ldb_script.specs.Tools.{Origin, Tools, tools, AreAt, ByLine};
-ghost use Rattle.ldb_script.specs.Doing.{BehindIs, BuildsOr, IsNoRestore, LastOr, StoreAnsweredOr, AnsweredOr, ServedOr, DoneOr, Underway, TurnedOr, Ran, Closed, unopened_end};
+ghost use Rattle.ldb_script.specs.Doing.{
+  BehindIs,
+  BuildsOr,
+  IsNoRestore,
+  LastOr,
+  StoreAnsweredOr,
+  AnsweredOr,
+  ServedOr,
+  DoneOr,
+  Underway,
+  TurnedOr,
+  Ran,
+  Closed,
+  unopened_end,
+};
 
 // Adds an operation to a batch. The limits are tested before memory is taken.
 fn add_op(batch: &mut Batch, op: &Op) -> Result<(), BatchRefusal>

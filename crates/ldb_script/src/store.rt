@@ -97,8 +97,8 @@ impl<D: Disk> Store<D> {
     ghost use Rattle.ldb_script.specs.Restoring.{RestoresOr};
     ghost use Rattle.lsm_io.specs.Causes.{Rose};
     ghost use Rattle.lsm_names.specs.FileNames.{is_file_number};
-    ghost use Rattle.bk_engine.specs.Creating.{plain_names};
-    ghost use Rattle.bk_engine.specs.Preparing.{plain_views, faults_of};
+    ghost use Rattle.bk_engine.specs.Creating.{file_names_of};
+    ghost use Rattle.bk_engine.specs.Preparing.{views_of, faults_of};
 
     /// A store in a new folder of this name, with a manifest, `CURRENT` and an empty log. The folder's name is free before,
     /// or the opening is refused. A refused opening leaves what it made.
@@ -175,11 +175,8 @@ impl<D: Disk> Store<D> {
         ensures views { IfOk result (λ files. (start : Option Story) (outcome : Outcome)
             → Stands start self.old outcome
             → HasFiles start outcome.accepted
-            (plain_names (option_map (λ file. file.number) files.log) files.manifest.number) (plain_views (option_map (λ file. D.View.viewed file.view) files.log)
-            (D.View.viewed files.current) (D.View.viewed files.manifest.view))) }
-        ensures fresh { IfOk result (λ files. faults_of (plain_views
-            (option_map (λ file. D.View.viewed file.view) files.log)
-            (D.View.viewed files.current) (D.View.viewed files.manifest.view)) ≡ 0) }
+            (file_names_of files) (views_of D.View.viewed files)) }
+        ensures fresh { IfOk result (λ files. faults_of (views_of D.View.viewed files) ≡ 0) }
         ensures log { IfOk result (λ files. IfSome files.log (λ file. IsTrue (is_file_number file.number))) }
         ensures manifest { IfOk result (λ files. IsTrue (is_file_number files.manifest.number)) }
         ensures refused { IfErr result (λ error. (start : Option Story) (outcome : Outcome)
@@ -193,9 +190,7 @@ impl<D: Disk> Store<D> {
     /// Takes views of files back. One that had a fault raises the disk's count of faults.
     pub fn take_back(&mut self, files: PlainFiles<D::View>)
         ensures stands { (start : Option Story) (outcome : Outcome) → Stands start self.old outcome → Stands start self.new outcome }
-        ensures faults { 0 < faults_of (plain_views
-            (option_map (λ file. D.View.viewed file.view) files.log)
-            (D.View.viewed files.current) (D.View.viewed files.manifest.view))
+        ensures faults { 0 < faults_of (views_of D.View.viewed files)
             → Rose self.old.disk.faults self.new.disk.faults }
         ensures untouched { IsUntouched self.old self.new }
         ensures counts { SeenStay self.old.disk self.new.disk }

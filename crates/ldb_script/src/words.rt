@@ -2,7 +2,17 @@
 ghost use Rattle.std.specs.Prelude.{◌≡◌, ◌∷◌, ◌==◌, ◌++◌, Option, Some, None, IfOk, OnOk, map};
 ghost use Rattle.std.specs.List.{slice_split, list_all};
 ghost use Rattle.std.specs.Option.{option_map};
-ghost use Rattle.ldb_script.specs.Words.{is_printable, is_word, is_small_letter, is_lower_digit, is_hexadecimal, is_actor, bytes_of_digits, bytes_of_word, shown};
+ghost use Rattle.ldb_script.specs.Words.{
+  is_printable,
+  is_word,
+  is_small_letter,
+  is_lower_digit,
+  is_hexadecimal,
+  is_actor,
+  bytes_of_digits,
+  bytes_of_word,
+  shown,
+};
 
 use hex::FromHexError;
 use lsm_bytes::{Bytes, NoMemory};

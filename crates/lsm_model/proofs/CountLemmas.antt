@@ -1,7 +1,8 @@
 -- A state's counts go with its lists, over steps, runs, crashes, closings and openings.
-use Rattle.std.specs.Prelude.{◌≡◌, ℕ, ◌+◌, ◌-◌, ◌≤◌, true, false, ◌==◌, cond, List, [], ◌∷◌, ◌++◌, length, take, drop, All, Some, Result, Ok}
+use Rattle.std.specs.Prelude.{◌≡◌, ℕ, ◌+◌, ◌-◌, ◌≤◌, true, false, ◌==◌, cond, List, [], ◌∷◌, ◌++◌, length, take, drop, All, Option, Some, None, ◌⊎◌, Result, Ok}
 use Rattle.std.proofs.Common.{refl, sym, ap, subst, ◌∙◌, inl, inr, arith, append_assoc, take-append-drop}
 use Rattle.std.proofs.lemmas.List.{length-append, length-take-le}
+use Rattle.std.proofs.lemmas.Slice.Eq.{bytes_eq-Decides}
 use Rattle.std.proofs.lemmas.List.Elements.{All-nil, All-cons, All-head, All-tail, All-push, All-weaker}
 use Rattle.std.proofs.Math.Seq.{take-append-add}
 use Rattle.lsm_rows.specs.declared.operations.Op.{Op}
@@ -12,15 +13,22 @@ use Rattle.lsm_model.specs.declared.replies.Reply.{Reply}
 use Rattle.lsm_model.specs.declared.replies.Reply.TheVariants as reply
 use Rattle.lsm_model.specs.declared.states.State.{State}
 use Rattle.lsm_model.specs.declared.states.Pin.{Pin}
-use Rattle.lsm_model.specs.States.{pin_of, with_pin, without_pin, written, none_or_one}
+use Rattle.lsm_model.specs.States.{pin_of, with_pin, without_pin, written, none_or_one, folder_of, with_folder}
 use Rattle.lsm_model.specs.Answers.{Done, Failed, Wanting, Refused}
-use Rattle.lsm_model.specs.Steps.{Step, Run}
-use Rattle.lsm_model.specs.Runs.{Core, core, Moves, Same, Wrote, Pinned, Spent, Unpinned, Stepped, Published, Counted, added_by, accepted_in}
+use Rattle.lsm_model.specs.Steps.{Step, Made, Asked, Makes, Run}
+use Rattle.lsm_model.specs.Runs.{Core, core, Moves, Same, Wrote, Pinned, Spent, Unpinned, Stepped, Published, Counted, Founded, Changed, added, added_by, accepted_in}
 use Rattle.lsm_model.specs.Crashes.{Crashed, Closes, Opened}
-use Rattle.lsm_model.specs.Counts.{IsCounted}
+use Rattle.lsm_model.specs.Counts.{IsCounted, IsThere}
 use Rattle.lsm_model.specs.Counts as counts
+use Rattle.lsm_model.specs.Destination.{BeginsFolder, FillsFolder, FinishesFolder}
+use Rattle.lsm_disk.specs.declared.calls.DiskCall.{DiskCall}
+use Rattle.lsm_disk.specs.declared.dest.DestError.{DestError}
+use Rattle.lsm_model.specs.declared.states.FolderRead.{FolderRead}
+use Rattle.lsm_model.proofs.PinLemmas.{folder_stays, folder_new, folder_placed}
+use Rattle.lsm_model.proofs.RestoreLemmas.{Alike, begins, fills, finishes}
+use Rattle.lsm_model.proofs.MadeLemmas.{moves, begin_moves, fill_moves, finish_moves}
 use Rattle.lsm_model.proofs.Cores.{moved, becomes_same, reading_same, halts_settling_same}
-use Rattle.lsm_model.proofs.DurableLemmas.{Keeps, becomes, reading, halts_settling, step_keeps, run_keeps}
+use Rattle.lsm_model.proofs.DurableLemmas.{Keeps, keeps_as, becomes, reading, halts_settling, step_keeps, made_keeps, run_keeps}
 use Rattle.lsm_model.proofs.Histories.{run_more, run_accepted}
 use Rattle.lsm_model.proofs.RunLemmas.{run_at}
 use Rattle.lsm_model.proofs.CrashLemmas.{durable_stay}
@@ -60,12 +68,34 @@ HasNumber greatest pin = pin.number ≤ greatest
 abbrev HasFront : ℕ → Pin → Type 0
 HasFront count pin = pin.batches ≤ count
 
--- the pins have numbers that were given, and fronts of the accepted batches
+-- the pins have numbers that were given, and fronts of the accepted batches; and the folder that is begun is there
 record AreWithin (c : Core) : Type 0 where
   numbers : All (HasNumber c.greatest_pin) c.pins
   fronts : All (HasFront (length c.accepted)) c.pins
+  begun : IsThere c.folders c.begun
+
+-- the folder that is begun is there with one folder more
+there_more : (folders : List FolderRead) (new : FolderRead) (begun : Option (List ℕ)) → IsThere folders begun → IsThere (folders ++ new ∷ []) begun
+there_more folders new None there = tt
+there_more folders new (Some dir) there = (there.0, folder_stays dir folders there.0 new there.1)
+
+there_new : (folders : List FolderRead) (new : FolderRead) → folder_of new.name folders ≡ None → IsThere (folders ++ new ∷ []) (Some new.name)
+there_new folders new free = (new, folder_new new.name folders new free ((bytes_eq-Decides new.name new.name).1 refl))
 
 module _ (a b : Core) (batches : List (List Op)) (within : AreWithin a) where
+  founds : (new : FolderRead) (begun : Option (List ℕ)) → folder_of new.name a.folders ≡ None → (begun ≡ a.begun) ⊎ (begun ≡ Some new.name)
+      → IsThere (a.folders ++ new ∷ []) begun
+  founds new begun free kept = elim kept [
+    | inl old ↦ subst (IsThere (a.folders ++ new ∷ [])) (sym old) (there_more a.folders new a.begun within.begun)
+    | inr now ↦ subst (IsThere (a.folders ++ new ∷ [])) (sym now) (there_new a.folders new free)
+  ]
+
+  changes : (new : FolderRead) (begun : Option (List ℕ)) → a.begun ≡ Some new.name → (begun ≡ a.begun) ⊎ (begun ≡ None) → IsThere (with_folder new a.folders) begun
+  changes new begun was kept = elim kept [
+    | inl old ↦ subst (IsThere (with_folder new a.folders)) (sym (old ∙ was)) (new, folder_placed new a.folders)
+    | inr none ↦ subst (IsThere (with_folder new a.folders)) (sym none) tt
+  ]
+
   more : (ops : List Op) → length a.accepted ≤ length (a.accepted ++ ops ∷ [])
   more ops = let long = length-append a.accepted (ops ∷ []) in omega (arith, long)
 
@@ -78,68 +108,95 @@ module _ (a b : Core) (batches : List (List Op)) (within : AreWithin a) where
     | Wrote ops one is ↦ subst AreWithin (sym is) (record {
       numbers = within.numbers;
       fronts = All-weaker (HasFront (length a.accepted)) (HasFront (length (a.accepted ++ ops ∷ []))) (λ pin h. let longer = more ops in omega (arith, h, longer)) a.pins within.fronts;
+      begun = within.begun;
     })
     | Pinned holder manifest files none is ↦ subst AreWithin (sym is) (record {
       numbers = All-push (HasNumber (a.greatest_pin + 1)) a.pins (record { number = a.greatest_pin + 1; batches = length a.accepted; manifest = manifest; files = files; holder = holder }) (raised a.pins within.numbers) (omega arith);
       fronts = All-push (HasFront (length a.accepted)) a.pins (record { number = a.greatest_pin + 1; batches = length a.accepted; manifest = manifest; files = files; holder = holder }) within.fronts (omega arith);
+      begun = within.begun;
     })
-    | Spent none is ↦ subst AreWithin (sym is) (record { numbers = raised a.pins within.numbers; fronts = within.fronts })
+    | Spent none is ↦ subst AreWithin (sym is) (record { numbers = raised a.pins within.numbers; fronts = within.fronts; begun = within.begun })
     | Unpinned number none is ↦ subst AreWithin (sym is) (record {
       numbers = all_without (HasNumber a.greatest_pin) number a.pins within.numbers;
       fronts = all_without (HasFront (length a.accepted)) number a.pins within.fronts;
+      begun = within.begun;
     })
     | Stepped number pin holder none found same is ↦ subst AreWithin (sym is) (record {
       numbers = all_with (HasNumber a.greatest_pin) (record pin { holder = holder }) a.pins (all_found (HasNumber a.greatest_pin) number a.pins pin within.numbers found) within.numbers;
       fronts = all_with (HasFront (length a.accepted)) (record pin { holder = holder }) a.pins (all_found (HasFront (length a.accepted)) number a.pins pin within.fronts found) within.fronts;
+      begun = within.begun;
     })
     | Published number folder none is ↦ subst AreWithin (sym is) (record {
       numbers = all_without (HasNumber a.greatest_pin) number a.pins within.numbers;
       fronts = all_without (HasFront (length a.accepted)) number a.pins within.fronts;
+      begun = there_more a.folders folder a.begun within.begun;
     })
-    | Counted count none is ↦ subst AreWithin (sym is) (record { numbers = within.numbers; fronts = within.fronts })
+    | Counted count none is ↦ subst AreWithin (sym is) (record { numbers = within.numbers; fronts = within.fronts; begun = within.begun })
+    | Founded new begun none free kept is ↦ subst AreWithin (sym is) (record { numbers = within.numbers; fronts = within.fronts; begun = founds new begun free kept })
+    | Changed new begun none was kept is ↦ subst AreWithin (sym is) (record { numbers = within.numbers; fronts = within.fronts; begun = changes new begun was kept })
   ]
 
 -- ---- steps and runs
 
-pub step_counted : (s t : State) (e : Event) (r : Reply) → Step s e r t → IsCounted s → IsCounted t
-step_counted s t e r step counted =
-    let within = moves_within (core s) (core t) (added_by e r) (record { numbers = counted.numbers; fronts = counted.fronts }) (moved s t e r step) in
-    record { durable = (step_keeps s t e r step counted.durable).1; numbers = within.numbers; fronts = within.fronts }
+-- what moves the core so, and keeps the count, leaves the counts with the lists
+moves_counted : (s t : State) (batches : List (List Op)) → Moves (core s) (core t) batches → Keeps s t → IsCounted s → IsCounted t
+moves_counted s t batches m keeps counted =
+    let within = moves_within (core s) (core t) batches (record { numbers = counted.numbers; fronts = counted.fronts; begun = counted.begun }) m in
+    record { durable = (keeps counted.durable).1; numbers = within.numbers; fronts = within.fronts; begun = within.begun }
 
-pub run_counted : (s t : State) (steps : List (Event × Reply)) → Run s steps t → IsCounted s → IsCounted t
+pub step_counted : (s t : State) (e : Event) (r : Reply) → Step s e r t → IsCounted s → IsCounted t
+step_counted s t e r step = moves_counted s t (added_by e r) (moved s t e r step) (step_keeps s t e r step)
+
+pub made_counted : (s t : State) (made : Made) → Makes s made t → IsCounted s → IsCounted t
+made_counted s t made h = moves_counted s t (added made) (moves s t made h) (made_keeps s t made h)
+
+pub run_counted : (s t : State) (steps : List Made) → Run s steps t → IsCounted s → IsCounted t
 run_counted s t [] run counted = subst IsCounted (sym run) counted
-run_counted s t (x ∷ steps) run counted = run_counted run.0 t steps run.2 (step_counted s run.0 x.0 x.1 run.1 counted)
+run_counted s t (x ∷ steps) run counted = run_counted run.0 t steps run.2 (made_counted s run.0 x run.1 counted)
+
+-- a restore's calls, whichever disk call one makes
+restores : (s t : State) → Moves (core s) (core t) [] → Alike s t → IsCounted s → IsCounted t
+restores s t m same = moves_counted s t [] m (keeps_as s t same.0 same.1)
+
+pub restore_counted : (s t : State) (dir : List ℕ) (call : DiskCall) (result : Result (Unit {0}) DestError)
+    → BeginsFolder s dir result t ⊎ (FillsFolder call s result t ⊎ FinishesFolder s result t) → IsCounted s → IsCounted t
+restore_counted s t dir call result h = elim h [
+  | inl b ↦ restores s t (begin_moves s t dir result b) (begins s t dir result b)
+  | inr r ↦ elim r [
+    | inl f ↦ restores s t (fill_moves s t call result f) (fills s t call result f)
+    | inr f ↦ restores s t (finish_moves s t result f) (finishes s t result f)
+  ]
+]
 
 -- ---- crashes, closings and openings
 
--- with no pins the counts go with the lists where the durable ones do
-without_pins : (t : State) → t.durable ≤ length t.accepted → t.pins ≡ [] → IsCounted t
-without_pins t durable none = record {
+-- with no pins and no folder begun the counts go with the lists where the durable ones do
+without_pins : (t : State) → t.durable ≤ length t.accepted → t.pins ≡ [] → t.begun ≡ None → IsCounted t
+without_pins t durable none unbegun = record {
   durable = durable;
   numbers = subst (All (HasNumber t.greatest_pin)) (sym none) (All-nil (HasNumber t.greatest_pin));
   fronts = subst (All (HasFront (length t.accepted))) (sym none) (All-nil (HasFront (length t.accepted)));
+  begun = subst (IsThere t.folders) (sym unbegun) tt;
 }
 
 pub crashed_counted : (s t : State) → Crashed s t → IsCounted t
-crashed_counted s t c = without_pins t (let all = c.all in omega (arith, all)) (ap (λ (q : State). q.pins) c.rest)
+crashed_counted s t c = without_pins t (let all = c.all in omega (arith, all)) (ap (λ (q : State). q.pins) c.rest) (ap (λ (q : State). q.begun) c.rest)
 
 pub opened_counted : (s t : State) → Opened s t → IsCounted t
 opened_counted s t o =
     let none : t.durable ≡ 0 = ap (λ (q : State). q.durable) o.rest in
-    without_pins t (omega (arith, none)) (ap (λ (q : State). q.pins) o.rest)
+    without_pins t (omega (arith, none)) (ap (λ (q : State). q.pins) o.rest) (ap (λ (q : State). q.begun) o.rest)
 
 -- where the core stays
 same_counted : (s t : State) → core t ≡ core s → Keeps s t → IsCounted s → IsCounted t
-same_counted s t same keeps counted =
-    let within = moves_within (core s) (core t) [] (record { numbers = counted.numbers; fronts = counted.fronts }) (Same refl same) in
-    record { durable = (keeps counted.durable).1; numbers = within.numbers; fronts = within.fronts }
+same_counted s t same keeps counted = moves_counted s t [] (Same refl same) keeps counted
 
 pub closed_counted : (s t : State) (result : Result (Unit {0}) StoreError) → Closes s result t → IsCounted s → IsCounted t
 closed_counted s t result closes counted = elim closes [
   | Done x is known d ↦
       let count : t.durable ≡ length s.accepted = ap (λ (q : State). q.durable) d.rest in
       let long : length t.accepted ≡ length s.accepted = ap (λ (q : State). length q.accepted) d.rest in
-      without_pins t (omega (arith, count, long)) (ap (λ (q : State). q.pins) d.rest)
+      without_pins t (omega (arith, count, long)) (ap (λ (q : State). q.pins) d.rest) (ap (λ (q : State). q.begun) d.rest)
   | Failed is known f ↦ elim f [
     | inl g ↦ same_counted s t (reading_same g) (reading g) counted
     | inr g ↦ same_counted s t (halts_settling_same g) (halts_settling g) counted
@@ -198,7 +255,7 @@ crash_keeps s t front rest c parts durable =
     (take (c.kept - length front) (rest ++ none_or_one s.doubtful), c.accepted ∙ ap (take c.kept) all ∙ longer_front c.kept front (rest ++ none_or_one s.doubtful) kept)
 
 -- what is durable at one moment of a run is there after a crash at its end
-pub durable_outlives : (s m t : State) (steps : List (Event × Reply)) → IsCounted s → Run s steps m → Crashed m t
+pub durable_outlives : (s m t : State) (steps : List Made) → IsCounted s → Run s steps m → Crashed m t
     → (more : List (List Op)) × (t.accepted ≡ take s.durable s.accepted ++ more)
 durable_outlives s m t steps counted run crash =
     let parts : m.accepted ≡ take s.durable s.accepted ++ (drop s.durable s.accepted ++ accepted_in steps) =
@@ -210,21 +267,21 @@ durable_outlives s m t steps counted run crash =
     crash_keeps m t (take s.durable s.accepted) (drop s.durable s.accepted ++ accepted_in steps) crash parts (omega (arith, long, rises))
 
 -- what was accepted before a write with `sync` or a sync that was answered Ok, and by it, is there after a crash
-pub synced_outlives : (s m t : State) (before after : List (Event × Reply)) (e : Event) (r : Reply) → IsCounted s → Run s (before ++ (e, r) ∷ after) m
-    → counts.IsSynced e r → Crashed m t → (more : List (List Op)) × (t.accepted ≡ (s.accepted ++ accepted_in (before ++ (e, r) ∷ [])) ++ more)
+pub synced_outlives : (s m t : State) (before after : List Made) (e : Event) (r : Reply) → IsCounted s → Run s (before ++ (Asked e r) ∷ after) m
+    → counts.IsSynced e r → Crashed m t → (more : List (List Op)) × (t.accepted ≡ (s.accepted ++ accepted_in (before ++ (Asked e r) ∷ [])) ++ more)
 synced_outlives s m t before after e r counted run synced crash =
-    let at = run_at s m before (e, r) after run in
-    let there : at.1.accepted ≡ s.accepted ++ accepted_in (before ++ (e, r) ∷ []) = run_accepted s at.1 (before ++ (e, r) ∷ []) (run_more s at.0 at.1 before e r at.2 at.3) in
-    let parts : m.accepted ≡ (s.accepted ++ accepted_in (before ++ (e, r) ∷ [])) ++ accepted_in after =
+    let at = run_at s m before (Asked e r) after run in
+    let there : at.1.accepted ≡ s.accepted ++ accepted_in (before ++ (Asked e r) ∷ []) = run_accepted s at.1 (before ++ (Asked e r) ∷ []) (run_more s at.0 at.1 before (Asked e r) at.2 at.3) in
+    let parts : m.accepted ≡ (s.accepted ++ accepted_in (before ++ (Asked e r) ∷ [])) ++ accepted_in after =
     run_accepted at.1 m after at.4 ∙ ap (λ (l : List (List Op)). l ++ accepted_in after) there in
     let all : at.1.durable ≡ length at.1.accepted = synced_all at.0 at.1 e r at.3 synced in
-    let long : length at.1.accepted ≡ length (s.accepted ++ accepted_in (before ++ (e, r) ∷ [])) = ap (λ (l : List (List Op)). length l) there in
+    let long : length at.1.accepted ≡ length (s.accepted ++ accepted_in (before ++ (Asked e r) ∷ [])) = ap (λ (l : List (List Op)). length l) there in
     let rises = (run_keeps at.1 m after at.4 (omega (arith, all))).0 in
-    crash_keeps m t (s.accepted ++ accepted_in (before ++ (e, r) ∷ [])) (accepted_in after) crash parts (omega (arith, all, long, rises))
+    crash_keeps m t (s.accepted ++ accepted_in (before ++ (Asked e r) ∷ [])) (accepted_in after) crash parts (omega (arith, all, long, rises))
 
 -- the durable batches themselves are as they were
-pub crash_front : (s m t : State) (steps : List (Event × Reply)) → IsCounted s → Run s steps m → Crashed m t → take m.durable t.accepted ≡ take m.durable m.accepted
+pub crash_front : (s m t : State) (steps : List Made) → IsCounted s → Run s steps m → Crashed m t → take m.durable t.accepted ≡ take m.durable m.accepted
 crash_front s m t steps counted run crash = durable_stay m t crash (run_counted s m steps run counted).durable
 
-pub durable_rises : (s t : State) (steps : List (Event × Reply)) → Run s steps t → IsCounted s → s.durable ≤ t.durable
+pub durable_rises : (s t : State) (steps : List Made) → Run s steps t → IsCounted s → s.durable ≤ t.durable
 durable_rises s t steps run counted = (run_keeps s t steps run counted.durable).0

@@ -24,7 +24,9 @@ use Rattle.lsm_model.specs.Halting.{Aimed}
 use Rattle.lsm_model.specs.Moves.{Becomes, Settles, Draws, Flushes, Halts, HaltsSettling, FailsToRead, Fails}
 use Rattle.lsm_model.specs.Answers.{Answers, Done, Failed, Wanting, Refused, MayFlush, does_flush, FailsFlushing, AnswersFlushing, Usual, No_number, No_place}
 use Rattle.lsm_model.specs.Steps as Steps
-use Rattle.lsm_model.specs.Steps.{Given, Step, Run}
+use Rattle.lsm_model.specs.Steps.{Given, Step, Made, Asked, Began, Filed, Appended, Sealed, Finished, Closed_file, Closed_tables, Makes, Run}
+use Rattle.lsm_model.proofs.RestoreLemmas.{Alike, begins, fills, finishes}
+use Rattle.lsm_disk.specs.declared.calls.DiskCall.TheVariants as disk
 use Rattle.lsm_model.specs.Writes as writes
 use Rattle.lsm_model.specs.Reads as reads
 use Rattle.lsm_model.specs.Upkeep as upkeep
@@ -42,7 +44,7 @@ keeps_trans s m t first second within =
     (omega (arith, a.0, b.0), b.1)
 
 -- where both stay the count keeps
-keeps_as : (s t : State) → t.durable ≡ s.durable → t.accepted ≡ s.accepted → Keeps s t
+pub keeps_as : (s t : State) → t.durable ≡ s.durable → t.accepted ≡ s.accepted → Keeps s t
 keeps_as s t count same within =
     let long : length t.accepted ≡ length s.accepted = ap (λ (l : List (List Op)). length l) same in
     (omega (arith, count), omega (arith, count, long, within))
@@ -238,6 +240,20 @@ step_keeps s t (event.Show dir) r h = given s t (Steps.to_show r) h (show_keeps 
 step_keeps s t (event.ShowPin pin) r h = given s t (Steps.to_show_pin r) h (λ result a. answers s t a (λ x d. becomes d.1) reading becomes (keeps_same s t))
 step_keeps s t (event.ReadPinned pin name) r h = given s t (Steps.to_read_pinned r) h (λ result a. answers s t a (λ x d. becomes d.1) reading becomes (keeps_same s t))
 
-pub run_keeps : (s t : State) (steps : List (Event × Reply)) → Run s steps t → Keeps s t
+-- where the batches and the pins are the same
+alike_keeps : (s t : State) → Alike s t → Keeps s t
+alike_keeps s t same = keeps_as s t same.0 same.1
+
+pub made_keeps : (s t : State) (made : Made) → Makes s made t → Keeps s t
+made_keeps s t (Asked e r) h = step_keeps s t e r h
+made_keeps s t (Began dir result) h = alike_keeps s t (begins s t dir result h)
+made_keeps s t (Filed name result) h = alike_keeps s t (fills s t disk.Create result h)
+made_keeps s t (Appended bytes result) h = alike_keeps s t (fills s t disk.Append result h)
+made_keeps s t (Sealed result) h = alike_keeps s t (fills s t disk.Sync result h)
+made_keeps s t (Finished current result) h = alike_keeps s t (finishes s t result h)
+made_keeps s t Closed_file h = becomes h
+made_keeps s t Closed_tables h = becomes h
+
+pub run_keeps : (s t : State) (steps : List Made) → Run s steps t → Keeps s t
 run_keeps s t [] run = keeps_same s t run
-run_keeps s t (x ∷ steps) run = keeps_trans s run.0 t (step_keeps s run.0 x.0 x.1 run.1) (run_keeps run.0 t steps run.2)
+run_keeps s t (x ∷ steps) run = keeps_trans s run.0 t (made_keeps s run.0 x run.1) (run_keeps run.0 t steps run.2)

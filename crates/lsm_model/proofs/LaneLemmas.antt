@@ -6,13 +6,11 @@ use Rattle.std.proofs.lemmas.List.Elements.{filter-append}
 use Rattle.lsm_rows.specs.declared.operations.Op.{Op}
 use Rattle.std.specs.FinMap as finite
 use Rattle.lsm_rows.specs.Replay.{replayed}
-use Rattle.lsm_model.specs.declared.events.Event.{Event}
 use Rattle.lsm_model.specs.declared.events.Event.TheVariants as event
-use Rattle.lsm_model.specs.declared.replies.Reply.{Reply}
 use Rattle.lsm_model.specs.declared.replies.Reply.TheVariants as reply
 use Rattle.lsm_model.specs.declared.states.State.{State}
 use Rattle.lsm_model.specs.declared.lane_laws.Entry.{Entry}
-use Rattle.lsm_model.specs.Steps.{Run}
+use Rattle.lsm_model.specs.Steps.{Made, Asked, Run}
 use Rattle.lsm_model.specs.Runs.{added_by, accepted_in}
 use Rattle.lsm_model.specs.Lanes.{steps_of, own_entries, commits_of, own_commits, batches_of}
 use Rattle.lsm_model.proofs.Histories.{run_accepted}
@@ -76,14 +74,14 @@ commit_behind seen after entry ops adds =
     commits_append seen (entry ∷ after) ∙ ap (λ (l : List (List Op)). commits_of seen ++ (of_lane entry.lane l ++ commits_of after)) adds
 
 -- the steps of entries at one of them
-steps_at : (seen after : List Entry) (entry : Entry) → steps_of (seen ++ entry ∷ after) ≡ steps_of seen ++ (entry.event, entry.reply) ∷ steps_of after
-steps_at seen after entry = map-append (λ (e : Entry). (e.event, e.reply)) seen (entry ∷ after)
+steps_at : (seen after : List Entry) (entry : Entry) → steps_of (seen ++ entry ∷ after) ≡ steps_of seen ++ (Asked entry.event entry.reply) ∷ steps_of after
+steps_at seen after entry = map-append (λ (e : Entry). Asked e.event e.reply) seen (entry ∷ after)
 
 -- a lane's get shows the commits before it
 pub get_shows_commits : (s t : State) (seen after : List Entry) (entry : Entry) (key : List ℕ) (value : Option (List ℕ)) → Run s (steps_of (seen ++ entry ∷ after)) t
     → entry.event ≡ event.Get key → entry.reply ≡ reply.Get (Ok value) → value ≡ finite.get (replayed s.opening (s.accepted ++ batches_of (commits_of seen))) key
 get_shows_commits s t seen after entry key value run asks answers =
-    let at : steps_of (seen ++ entry ∷ after) ≡ steps_of seen ++ (event.Get key, reply.Get (Ok value)) ∷ steps_of after =
-    steps_at seen after entry ∙ (λ i. steps_of seen ++ (asks i, answers i) ∷ steps_of after) in
-    get_shows s t (steps_of seen) (steps_of after) key value (subst (λ (steps : List (Event × Reply)). Run s steps t) at run)
+    let at : steps_of (seen ++ entry ∷ after) ≡ steps_of seen ++ (Asked (event.Get key) (reply.Get (Ok value))) ∷ steps_of after =
+    steps_at seen after entry ∙ (λ i. steps_of seen ++ (Asked (asks i) (answers i)) ∷ steps_of after) in
+    get_shows s t (steps_of seen) (steps_of after) key value (subst (λ (steps : List Made). Run s steps t) at run)
     ∙ ap (λ (batches : List (List Op)). finite.get (replayed s.opening (s.accepted ++ batches)) key) (sym (commits_accepted seen))

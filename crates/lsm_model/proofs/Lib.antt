@@ -9,6 +9,7 @@ pub mod KnownLemmas
 pub mod LaneLemmas
 pub mod LifeLemmas
 pub mod LookupLemmas
+pub mod MadeLemmas
 pub mod OpeningLemmas
 pub mod PinHistories
 pub mod PinLemmas
@@ -18,4 +19,5 @@ pub mod PlayLemmas
 pub mod RefusalLemmas
 pub mod StepLemmas
 pub mod RestoreLemmas
+pub mod RestoreRefusals
 pub mod RunLemmas

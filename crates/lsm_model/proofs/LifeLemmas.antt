@@ -9,7 +9,7 @@ use Rattle.lsm_model.specs.declared.events.Event.{Event}
 use Rattle.lsm_model.specs.declared.replies.Reply.{Reply}
 use Rattle.lsm_model.specs.declared.states.State.{State}
 use Rattle.lsm_model.specs.States.{written, none_or_one}
-use Rattle.lsm_model.specs.Steps.{Run}
+use Rattle.lsm_model.specs.Steps.{Made, Asked, Run}
 use Rattle.lsm_model.specs.Runs.{accepted_in}
 use Rattle.lsm_model.specs.Crashes.{Opened}
 use Rattle.lsm_model.specs.Counts.{IsCounted, IsSynced}
@@ -62,13 +62,13 @@ found_at m found t counted ends opened = elim ends [
 ]
 
 -- a front that is long enough begins with what was synced
-synced_front : (s m : State) (before after : List (Event × Reply)) (e : Event) (r : Reply) (count : ℕ) → IsCounted s → s.accepted ≡ [] → Run s (before ++ (e, r) ∷ after) m → IsSynced e r
-    → m.durable ≤ count → (more : List (List Op)) × (take count (written m) ≡ accepted_in (before ++ (e, r) ∷ []) ++ more)
+synced_front : (s m : State) (before after : List Made) (e : Event) (r : Reply) (count : ℕ) → IsCounted s → s.accepted ≡ [] → Run s (before ++ (Asked e r) ∷ after) m → IsSynced e r
+    → m.durable ≤ count → (more : List (List Op)) × (take count (written m) ≡ accepted_in (before ++ (Asked e r) ∷ []) ++ more)
 synced_front s m before after e r count counted none run synced durable =
-    let at = run_at s m before (e, r) after run in
-    let front : List (List Op) = accepted_in (before ++ (e, r) ∷ []) in
+    let at = run_at s m before (Asked e r) after run in
+    let front : List (List Op) = accepted_in (before ++ (Asked e r) ∷ []) in
     let there : at.1.accepted ≡ front =
-    run_accepted s at.1 (before ++ (e, r) ∷ []) (run_more s at.0 at.1 before e r at.2 at.3) ∙ ap (λ (l : List (List Op)). l ++ front) none in
+    run_accepted s at.1 (before ++ (Asked e r) ∷ []) (run_more s at.0 at.1 before (Asked e r) at.2 at.3) ∙ ap (λ (l : List (List Op)). l ++ front) none in
     let parts : m.accepted ≡ front ++ accepted_in after = run_accepted at.1 m after at.4 ∙ ap (λ (l : List (List Op)). l ++ accepted_in after) there in
     let all : at.1.durable ≡ length at.1.accepted = synced_all at.0 at.1 e r at.3 synced in
     let long : length at.1.accepted ≡ length front = ap (λ (l : List (List Op)). length l) there in
@@ -78,14 +78,14 @@ synced_front s m before after e r count counted none run synced durable =
     (take (count - length front) rest, ap (take count) whole ∙ longer_front count front rest (omega (arith, all, long, rises, durable)))
 
 -- what the life leaves, and the state that the next one begins with
-record Leaves (s : State) (steps : List (Event × Reply)) (t : State) : Type 0 where
+record Leaves (s : State) (steps : List Made) (t : State) : Type 0 where
   left : List (List Op)
   is : IsLeft steps left
   opens : OpensAs s t left
   counted : IsCounted t
   none : t.accepted ≡ []
 
-life_leaves : (s t : State) (steps : List (Event × Reply)) → IsCounted s → s.accepted ≡ [] → Life s steps t → Leaves s steps t
+life_leaves : (s t : State) (steps : List Made) → IsCounted s → s.accepted ≡ [] → Life s steps t → Leaves s steps t
 life_leaves s t steps counted none life =
     let m : State = life.end in
     let found = found_at m life.found t (run_counted s m steps life.run counted) life.ends life.opened in
@@ -99,7 +99,7 @@ life_leaves s t steps counted none life =
         gone = drop found.count (written m);
         front = ap (λ (l : List (List Op)). l ++ none_or_one m.doubtful) (sym all) ∙ sym (take-append-drop found.count (written m));
         synced = λ before after e r is synced. synced_front s m before after e r found.count counted none
-            (subst (λ (l : List (Event × Reply)). Run s l m) is life.run) synced found.durable;
+            (subst (λ (l : List Made). Run s l m) is life.run) synced found.durable;
       };
       opens = (found.opens.0 ∙ ap (λ (c : Contents). replayed c left) base.1, found.opens.1 ∙ ap (λ (n : ℕ). sequence_after n left) base.2);
       counted = opened_counted life.found t life.opened;
@@ -108,7 +108,7 @@ life_leaves s t steps counted none life =
 
 -- ---- lives
 
-pub lives_leave : (s t : State) (lives : List (List (Event × Reply))) → IsCounted s → s.accepted ≡ [] → Lives s lives t
+pub lives_leave : (s t : State) (lives : List (List Made)) → IsCounted s → s.accepted ≡ [] → Lives s lives t
     → (left : List (List Op)) × AreLeft lives left × (t.opening ≡ replayed s.opening left) × (t.began ≡ sequence_after s.began left)
 lives_leave s t [] counted none lives = ([], refl, ap (λ (q : State). q.opening) lives, ap (λ (q : State). q.began) lives)
 lives_leave s t (steps ∷ rest) counted none lives =

@@ -11,7 +11,7 @@ use Rattle.lsm_model.specs.declared.states.State.{State}
 use Rattle.lsm_model.specs.declared.states.FolderRead.{FolderRead}
 use Rattle.lsm_model.specs.States.{shown_after, contents_now, last_of, written, none_or_one, folder_of}
 use Rattle.lsm_model.specs.Answers.{Done, Failed, Wanting, Refused}
-use Rattle.lsm_model.specs.Steps.{Run}
+use Rattle.lsm_model.specs.Steps.{Made, Asked, Run}
 use Rattle.lsm_model.specs.Runs.{accepted_in}
 use Rattle.lsm_model.specs.Crashes.{Crashed, Closes, Opened}
 use Rattle.lsm_model.specs.Counts.{IsCounted, IsSynced}
@@ -84,14 +84,14 @@ sure_opens s m t name folder c o found sure = o.sure name folder (c.folders name
 -- ---- over a run
 
 -- what was synced in a run is in the contents that the next opening after a crash finds
-pub synced_opens : (s m c t : State) (before after : List (Event × Reply)) (e : Event) (r : Reply) → IsCounted s → Run s (before ++ (e, r) ∷ after) m → IsSynced e r
+pub synced_opens : (s m c t : State) (before after : List Made) (e : Event) (r : Reply) → IsCounted s → Run s (before ++ (Asked e r) ∷ after) m → IsSynced e r
     → Crashed m c → Opened c t → (more : List (List Op))
-    × (t.opening ≡ replayed s.opening ((s.accepted ++ accepted_in (before ++ (e, r) ∷ [])) ++ more))
-    × (t.began ≡ sequence_after s.began ((s.accepted ++ accepted_in (before ++ (e, r) ∷ [])) ++ more))
+    × (t.opening ≡ replayed s.opening ((s.accepted ++ accepted_in (before ++ (Asked e r) ∷ [])) ++ more))
+    × (t.began ≡ sequence_after s.began ((s.accepted ++ accepted_in (before ++ (Asked e r) ∷ [])) ++ more))
 synced_opens s m c t before after e r counted run synced crash o =
     let kept = synced_outlives s m c before after e r counted run synced crash in
-    let base = run_base s m (before ++ (e, r) ∷ after) run in
-    let opens = opens_by s c t c.accepted ((s.accepted ++ accepted_in (before ++ (e, r) ∷ [])) ++ kept.0)
+    let base = run_base s m (before ++ (Asked e r) ∷ after) run in
+    let opens = opens_by s c t c.accepted ((s.accepted ++ accepted_in (before ++ (Asked e r) ∷ [])) ++ kept.0)
     (ap (λ (q : State). q.opening) crash.rest ∙ base.1) (ap (λ (q : State). q.began) crash.rest ∙ base.2) kept.1
     (opens_all c t o (ap (λ (q : State). q.doubtful) crash.rest)) in
     (kept.0, opens.0, opens.1)

@@ -24,7 +24,7 @@ use Rattle.lsm_model.specs.States.{shown_after, shown_at, last_of, pin_of, built
 use Rattle.lsm_model.specs.Moves.{Becomes}
 use Rattle.lsm_model.specs.Causes.{files_of, file_in, same_name}
 use Rattle.lsm_model.specs.Answers.{Done, Failed, Wanting, Refused, AnswersFlushing, Usual, No_number, No_place, does_flush}
-use Rattle.lsm_model.specs.Steps.{Step, Run}
+use Rattle.lsm_model.specs.Steps.{Step, Made, Asked, Run}
 use Rattle.lsm_model.specs.Runs.{Core, core, shown_behind}
 use Rattle.lsm_model.specs.Counts.{IsCounted}
 use Rattle.lsm_model.specs.Reads.{shown_by_pin}
@@ -115,12 +115,12 @@ begin_gives m n dir size start counted step = elim step [
 -- ---- what it shows later
 
 -- the pin that was given shows what the store had then
-pub pin_later : (m n q : State) (number : ℕ) (built : Option (List ℕ)) (files : List PinnedFile) (e : Event) (r : Reply) (between : List (Event × Reply)) (later : Pin) → GivesPin m n number built files
+pub pin_later : (m n q : State) (number : ℕ) (built : Option (List ℕ)) (files : List PinnedFile) (e : Event) (r : Reply) (between : List Made) (later : Pin) → GivesPin m n number built files
     → Step m e r n → Run n between q → pin_of number q.pins ≡ Some later → (shown_at q later.batches ≡ shown_after m m.accepted) × (built_by later.holder ≡ built) × (later.files ≡ files)
 pin_later m n q number built files e r between later gives step run found =
     let stays = pin_stays n q between number gives.pin later run gives.given gives.found found in (
       ap (shown_at q) (stays.0 ∙ gives.batches)
-          ∙ shown_stays m q (length m.accepted) ((e, r) ∷ between) (n, step, run) (omega arith)
+          ∙ shown_stays m q (length m.accepted) ((Asked e r) ∷ between) (n, step, run) (omega arith)
           ∙ ap (shown_after m) (take-length m.accepted),
       stays.2 ∙ gives.builds,
       stays.1 ∙ gives.has,
@@ -145,24 +145,24 @@ pin_shown q u number shown step = elim step [
   | Refused e is known w ↦ absurd (cc)
 ]
 
-pub cut_shown : (s t : State) (before between after : List (Event × Reply)) (rule : FlushRule) (cut : Cut) (shown : Shown) → IsCounted s
-    → Run s (before ++ (event.Cut rule, reply.Cut (Ok cut)) ∷ (between ++ (event.ShowPin cut.pin, reply.ShowPin (Ok shown)) ∷ after)) t
+pub cut_shown : (s t : State) (before between after : List Made) (rule : FlushRule) (cut : Cut) (shown : Shown) → IsCounted s
+    → Run s (before ++ (Asked (event.Cut rule) (reply.Cut (Ok cut))) ∷ (between ++ (Asked (event.ShowPin cut.pin) (reply.ShowPin (Ok shown))) ∷ after)) t
     → (shown ≡ shown_behind s before) × (cut.sequence ≡ shown.sequence)
 cut_shown s t before between after rule cut shown counted run =
-    let one = run_at s t before (event.Cut rule, reply.Cut (Ok cut)) (between ++ (event.ShowPin cut.pin, reply.ShowPin (Ok shown)) ∷ after) run in
-    let two = run_at one.1 t between (event.ShowPin cut.pin, reply.ShowPin (Ok shown)) after one.4 in
+    let one = run_at s t before (Asked (event.Cut rule) (reply.Cut (Ok cut))) (between ++ (Asked (event.ShowPin cut.pin) (reply.ShowPin (Ok shown))) ∷ after) run in
+    let two = run_at one.1 t between (Asked (event.ShowPin cut.pin) (reply.ShowPin (Ok shown))) after one.4 in
     let gives = cut_gives one.0 one.1 rule cut (run_counted s one.0 before one.2 counted) one.3 in
     let there = pin_shown two.0 two.1 cut.pin shown two.3 in
     let later = pin_later one.0 one.1 two.0 cut.pin None gives.0 (event.Cut rule) (reply.Cut (Ok cut)) between there.pin gives.1 one.3 two.2 there.found in
     let is : shown ≡ shown_after one.0 one.0.accepted = there.is ∙ later.0 in
     (is ∙ shown_now s one.0 before one.2, gives.2 ∙ ap (λ (x : Shown). x.sequence) (sym is))
 
-pub begun_shown : (s t : State) (before between after : List (Event × Reply)) (dir : List ℕ) (size : ℕ) (start : JobStart) (shown : Shown) → IsCounted s
-    → Run s (before ++ (event.CheckpointBegin dir size, reply.CheckpointBegin (Ok start)) ∷ (between ++ (event.ShowPin start.pin, reply.ShowPin (Ok shown)) ∷ after)) t
+pub begun_shown : (s t : State) (before between after : List Made) (dir : List ℕ) (size : ℕ) (start : JobStart) (shown : Shown) → IsCounted s
+    → Run s (before ++ (Asked (event.CheckpointBegin dir size) (reply.CheckpointBegin (Ok start))) ∷ (between ++ (Asked (event.ShowPin start.pin) (reply.ShowPin (Ok shown))) ∷ after)) t
     → (shown ≡ shown_behind s before) × (start.sequence ≡ shown.sequence)
 begun_shown s t before between after dir size start shown counted run =
-    let one = run_at s t before (event.CheckpointBegin dir size, reply.CheckpointBegin (Ok start)) (between ++ (event.ShowPin start.pin, reply.ShowPin (Ok shown)) ∷ after) run in
-    let two = run_at one.1 t between (event.ShowPin start.pin, reply.ShowPin (Ok shown)) after one.4 in
+    let one = run_at s t before (Asked (event.CheckpointBegin dir size) (reply.CheckpointBegin (Ok start))) (between ++ (Asked (event.ShowPin start.pin) (reply.ShowPin (Ok shown))) ∷ after) run in
+    let two = run_at one.1 t between (Asked (event.ShowPin start.pin) (reply.ShowPin (Ok shown))) after one.4 in
     let gives = begin_gives one.0 one.1 dir size start (run_counted s one.0 before one.2 counted) one.3 in
     let there = pin_shown two.0 two.1 start.pin shown two.3 in
     let later = pin_later one.0 one.1 two.0 start.pin (Some dir) gives.0 (event.CheckpointBegin dir size) (reply.CheckpointBegin (Ok start)) between there.pin gives.1 one.3 two.2 there.found in
@@ -190,19 +190,19 @@ file_read q u number name bytes step = elim step [
   | Refused e is known w ↦ absurd (cc)
 ]
 
-pub file_same : (s t : State) (before between after : List (Event × Reply)) (number : ℕ) (name : FileName) (first second : List ℕ) → IsCounted s
-    → Run s (before ++ (event.ReadPinned number name, reply.ReadPinned (Ok first)) ∷ (between ++ (event.ReadPinned number name, reply.ReadPinned (Ok second)) ∷ after)) t
+pub file_same : (s t : State) (before between after : List Made) (number : ℕ) (name : FileName) (first second : List ℕ) → IsCounted s
+    → Run s (before ++ (Asked (event.ReadPinned number name) (reply.ReadPinned (Ok first))) ∷ (between ++ (Asked (event.ReadPinned number name) (reply.ReadPinned (Ok second))) ∷ after)) t
     → second ≡ first
 file_same s t before between after number name first second counted run =
-    let one = run_at s t before (event.ReadPinned number name, reply.ReadPinned (Ok first)) (between ++ (event.ReadPinned number name, reply.ReadPinned (Ok second)) ∷ after) run in
-    let two = run_at one.1 t between (event.ReadPinned number name, reply.ReadPinned (Ok second)) after one.4 in
+    let one = run_at s t before (Asked (event.ReadPinned number name) (reply.ReadPinned (Ok first))) (between ++ (Asked (event.ReadPinned number name) (reply.ReadPinned (Ok second))) ∷ after) run in
+    let two = run_at one.1 t between (Asked (event.ReadPinned number name) (reply.ReadPinned (Ok second))) after one.4 in
     let here = file_read one.0 one.1 number name first one.3 in
     let later = file_read two.0 two.1 number name second two.3 in
     let given : number ≤ one.0.greatest_pin =
     let small = all_found (λ (pin : Pin). pin.number ≤ one.0.greatest_pin) number one.0.pins here.pin (run_counted s one.0 before one.2 counted).numbers here.found in
     let same = found_number number one.0.pins here.pin here.found in
     omega (arith, small, same) in
-    let stays = pin_stays one.0 two.0 ((event.ReadPinned number name, reply.ReadPinned (Ok first)) ∷ between) number here.pin later.pin (one.1, one.3, two.2) given here.found later.found in
+    let stays = pin_stays one.0 two.0 ((Asked (event.ReadPinned number name) (reply.ReadPinned (Ok first))) ∷ between) number here.pin later.pin (one.1, one.3, two.2) given here.found later.found in
     let same : Some second ≡ Some first = later.is ∙ ap (file_in name) stays.1 ∙ sym here.is in
     cc
 
@@ -239,12 +239,12 @@ listed_as name bytes (file ∷ cut) (held ∷ files) lists is =
     ] refl is
 
 -- what is read of a cut's file has the length that the cut lists
-pub file_listed : (s t : State) (before between after : List (Event × Reply)) (rule : FlushRule) (cut : Cut) (name : FileName) (bytes : List ℕ) → IsCounted s
-    → Run s (before ++ (event.Cut rule, reply.Cut (Ok cut)) ∷ (between ++ (event.ReadPinned cut.pin name, reply.ReadPinned (Ok bytes)) ∷ after)) t
+pub file_listed : (s t : State) (before between after : List Made) (rule : FlushRule) (cut : Cut) (name : FileName) (bytes : List ℕ) → IsCounted s
+    → Run s (before ++ (Asked (event.Cut rule) (reply.Cut (Ok cut))) ∷ (between ++ (Asked (event.ReadPinned cut.pin name) (reply.ReadPinned (Ok bytes))) ∷ after)) t
     → (file : CutFile) × Contains cut.files file × (file.name ≡ name) × (file.len ≡ length bytes)
 file_listed s t before between after rule cut name bytes counted run =
-    let one = run_at s t before (event.Cut rule, reply.Cut (Ok cut)) (between ++ (event.ReadPinned cut.pin name, reply.ReadPinned (Ok bytes)) ∷ after) run in
-    let two = run_at one.1 t between (event.ReadPinned cut.pin name, reply.ReadPinned (Ok bytes)) after one.4 in
+    let one = run_at s t before (Asked (event.Cut rule) (reply.Cut (Ok cut))) (between ++ (Asked (event.ReadPinned cut.pin name) (reply.ReadPinned (Ok bytes))) ∷ after) run in
+    let two = run_at one.1 t between (Asked (event.ReadPinned cut.pin name) (reply.ReadPinned (Ok bytes))) after one.4 in
     let gives = cut_gives one.0 one.1 rule cut (run_counted s one.0 before one.2 counted) one.3 in
     let there = file_read two.0 two.1 cut.pin name bytes two.3 in
     let later = pin_later one.0 one.1 two.0 cut.pin None gives.0 (event.Cut rule) (reply.Cut (Ok cut)) between there.pin gives.1 one.3 two.2 there.found in

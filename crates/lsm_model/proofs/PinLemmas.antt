@@ -2,11 +2,12 @@
 use Rattle.std.specs.Prelude.{◌≡◌, ◌≢◌, ℕ, ◌<◌, Bool, true, false, ◌==◌, cond, List, [], ◌∷◌, ◌++◌, Some, None}
 use Rattle.std.proofs.Common.{refl, sym, ap, ◌∙◌, arith}
 use Rattle.std.proofs.lemmas.Bool.Decides.{nat_tests}
+use Rattle.std.proofs.lemmas.Slice.Eq.{bytes_eq-Decides}
 use Rattle.std.specs.Str.{bytes_eq}
 use Rattle.std.specs.Option.{option_map}
 use Rattle.lsm_model.specs.declared.states.Pin.{Pin}
 use Rattle.lsm_model.specs.declared.states.FolderRead.{FolderRead}
-use Rattle.lsm_model.specs.States.{pin_of, with_pin, without_pin, folder_of}
+use Rattle.lsm_model.specs.States.{pin_of, with_pin, without_pin, folder_of, with_folder}
 
 -- ---- tests of numbers
 
@@ -79,6 +80,9 @@ others_kept number new (pin ∷ pins) differ =
 
 -- ---- folders
 
+other_name : (a b : List ℕ) → (a ≡ b → ⊥) → bytes_eq a b ≡ false
+other_name a b differ = elim (bytes_eq a b) as (λ t. bytes_eq a b ≡ t → t ≡ false) [ true ↦ λ test. absurd (differ ((bytes_eq-Decides a b).0 test)) | false ↦ λ test. refl ] refl
+
 -- a folder that is found stays the one that is found
 pub folder_stays : (name : List ℕ) (folders : List FolderRead) (folder new : FolderRead) → folder_of name folders ≡ Some folder → folder_of name (folders ++ new ∷ []) ≡ Some folder
 folder_stays name [] folder new found = absurd (cc)
@@ -96,3 +100,24 @@ folder_new name (first ∷ folders) new none same =
       | true ↦ λ is. absurd (cc)
       | false ↦ λ is. folder_new name folders new is same
     ] none
+
+-- ---- what a folder reads as, changed
+
+-- one of another name stays
+pub folder_kept : (name : List ℕ) (new : FolderRead) (folders : List FolderRead) → (new.name ≡ name → ⊥) → folder_of name (with_folder new folders) ≡ folder_of name folders
+folder_kept name new [] differ = ap (λ (b : Bool). cond b (Some new) None) (other_name new.name name differ)
+folder_kept name new (first ∷ folders) differ =
+    elim (bytes_eq first.name new.name) as (λ b. bytes_eq first.name new.name ≡ b → folder_of name (cond b (new ∷ folders) (first ∷ with_folder new folders)) ≡ folder_of name (first ∷ folders)) [
+      | true ↦ λ test. ap (λ (b : Bool). cond b (Some new) (folder_of name folders)) (other_name new.name name differ)
+          ∙ sym (ap (λ (b : Bool). cond b (Some first) (folder_of name folders)) (other_name first.name name (λ e. differ (sym ((bytes_eq-Decides first.name new.name).0 test) ∙ e))))
+      | false ↦ λ test. ap (cond (bytes_eq first.name name) (Some first)) (folder_kept name new folders differ)
+    ] refl
+
+-- the one of its name is the new one
+pub folder_placed : (new : FolderRead) (folders : List FolderRead) → folder_of new.name (with_folder new folders) ≡ Some new
+folder_placed new [] = ap (λ (b : Bool). cond b (Some new) None) ((bytes_eq-Decides new.name new.name).1 refl)
+folder_placed new (first ∷ folders) =
+    elim (bytes_eq first.name new.name) as (λ b. bytes_eq first.name new.name ≡ b → folder_of new.name (cond b (new ∷ folders) (first ∷ with_folder new folders)) ≡ Some new) [
+      | true ↦ λ test. ap (λ (b : Bool). cond b (Some new) (folder_of new.name folders)) ((bytes_eq-Decides new.name new.name).1 refl)
+      | false ↦ λ test. ap (λ (b : Bool). cond b (Some first) (folder_of new.name (with_folder new folders))) test ∙ folder_placed new folders
+    ] refl

@@ -1,19 +1,16 @@
 -- A restore's calls leave the batches and the pins.
-use Rattle.std.specs.Prelude.{◌≡◌, ◌⊎◌, ℕ, ◌≤◌, List, length, All, Result, Ok, Err}
-use Rattle.std.proofs.Common.{sym, ap, subst, inl, inr, arith}
+use Rattle.std.specs.Prelude.{◌≡◌, List, ℕ, Result, Ok, Err}
+use Rattle.std.proofs.Common.{ap, inl, inr}
 use Rattle.lsm_disk.specs.declared.calls.DiskCall.{DiskCall}
 use Rattle.lsm_disk.specs.declared.dest.DestError.{DestError}
 use Rattle.lsm_disk.specs.declared.dest.DestError.TheVariants as dest
-use Rattle.lsm_rows.specs.declared.operations.Op.{Op}
 use Rattle.lsm_model.specs.declared.states.State.{State}
-use Rattle.lsm_model.specs.declared.states.Pin.{Pin}
 use Rattle.lsm_model.specs.Halting.{Aimed}
 use Rattle.lsm_model.specs.Moves.{Becomes, Halts}
-use Rattle.lsm_model.specs.Counts.{IsCounted}
 use Rattle.lsm_model.specs.Destination.{BeginsFolder, FillsFolder, FinishesFolder}
 
 -- the batches, how many are durable, and the pins are the same
-abbrev Alike : State → State → Type 0
+abbrev pub Alike : State → State → Type 0
 Alike s t = (t.durable ≡ s.durable) × (t.accepted ≡ s.accepted) × (t.pins ≡ s.pins) × (t.greatest_pin ≡ s.greatest_pin)
 
 same : (s t : State) → t ≡ s → Alike s t
@@ -27,17 +24,7 @@ module _ {s t : State} where
   halts : {calls : List Aimed} → Halts calls s t → Alike s t
   halts h = becomes h.rest
 
-counted_alike : (s t : State) → Alike s t → IsCounted s → IsCounted t
-counted_alike s t a counted =
-    let long : length t.accepted ≡ length s.accepted = ap (λ (l : List (List Op)). length l) a.1 in
-    let durable : s.durable ≤ length s.accepted = counted.durable in
-    record {
-      durable = let count = a.0 in omega (arith, count, long, durable);
-      numbers = subst (λ (n : ℕ). All (λ (pin : Pin). pin.number ≤ n) t.pins) (sym a.3) (subst (All (λ (pin : Pin). pin.number ≤ s.greatest_pin)) (sym a.2) counted.numbers);
-      fronts = subst (λ (n : ℕ). All (λ (pin : Pin). pin.batches ≤ n) t.pins) (sym long) (subst (All (λ (pin : Pin). pin.batches ≤ length s.accepted)) (sym a.2) counted.fronts);
-    }
-
-begins : (s t : State) (dir : List ℕ) (result : Result (Unit {0}) DestError) → BeginsFolder s dir result t → Alike s t
+pub begins : (s t : State) (dir : List ℕ) (result : Result (Unit {0}) DestError) → BeginsFolder s dir result t → Alike s t
 begins s t dir (Ok done) h = becomes h.2
 begins s t dir (Err dest.Fault) h = elim h.1 [ inl f ↦ halts f | inr f ↦ halts f.1 ]
 begins s t dir (Err (dest.Halted first)) h = same s t h.1
@@ -45,7 +32,7 @@ begins s t dir (Err dest.Exists) h = becomes h.2
 begins s t dir (Err (dest.Changed call path)) h = absurd h
 begins s t dir (Err dest.NoMemory) h = becomes h.1
 
-fills : (s t : State) (call : DiskCall) (result : Result (Unit {0}) DestError) → FillsFolder call s result t → Alike s t
+pub fills : (s t : State) (call : DiskCall) (result : Result (Unit {0}) DestError) → FillsFolder call s result t → Alike s t
 fills s t call (Ok done) h = becomes h.1
 fills s t call (Err dest.Fault) h = halts h.1
 fills s t call (Err (dest.Halted first)) h = same s t h.1
@@ -53,15 +40,10 @@ fills s t call (Err dest.Exists) h = absurd h
 fills s t call (Err (dest.Changed at path)) h = absurd h
 fills s t call (Err dest.NoMemory) h = becomes h.1
 
-finishes : (s t : State) (result : Result (Unit {0}) DestError) → FinishesFolder s result t → Alike s t
+pub finishes : (s t : State) (result : Result (Unit {0}) DestError) → FinishesFolder s result t → Alike s t
 finishes s t (Ok done) h = becomes h.1.rest
 finishes s t (Err dest.Fault) h = elim h.1.halts [ inl f ↦ halts f | inr f ↦ halts f ]
 finishes s t (Err (dest.Halted first)) h = same s t h.1
 finishes s t (Err dest.Exists) h = absurd h
 finishes s t (Err (dest.Changed call path)) h = absurd h
 finishes s t (Err dest.NoMemory) h = becomes h.1
-
-pub restore_counted : (s t : State) (dir : List ℕ) (call : DiskCall) (result : Result (Unit {0}) DestError)
-    → BeginsFolder s dir result t ⊎ (FillsFolder call s result t ⊎ FinishesFolder s result t) → IsCounted s → IsCounted t
-restore_counted s t dir call result h counted =
-    counted_alike s t (elim h [ inl b ↦ begins s t dir result b | inr r ↦ elim r [ inl f ↦ fills s t call result f | inr f ↦ finishes s t result f ] ]) counted

@@ -1,14 +1,13 @@
 -- Lanes: several callers of one store, whose calls are done one after another.
 use Rattle.std.specs.Prelude.{ℕ, ◌==◌, List, [], ◌∷◌, ◌++◌, map, filter}
 use Rattle.lsm_rows.specs.declared.operations.Op.{Op}
-use Rattle.lsm_model.specs.declared.events.Event.{Event}
-use Rattle.lsm_model.specs.declared.replies.Reply.{Reply}
 use Rattle.lsm_model.specs.declared.lane_laws.Entry.{Entry}
+use Rattle.lsm_model.specs.Steps.{Made, Asked}
 use Rattle.lsm_model.specs.Runs.{added_by}
 
 -- the steps of entries
-abbrev pub steps_of : List Entry → List (Event × Reply)
-steps_of entries = map (λ (entry : Entry). (entry.event, entry.reply)) entries
+abbrev pub steps_of : List Entry → List Made
+steps_of entries = map (λ (entry : Entry). Asked entry.event entry.reply) entries
 
 -- a lane's own entries
 abbrev pub own_entries : ℕ → List Entry → List Entry

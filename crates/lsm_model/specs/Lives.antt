@@ -5,7 +5,7 @@ use Rattle.lsm_model.specs.declared.events.Event.{Event}
 use Rattle.lsm_model.specs.declared.replies.Reply.{Reply}
 use Rattle.lsm_model.specs.declared.states.State.{State}
 use Rattle.lsm_model.specs.States.{none_or_one}
-use Rattle.lsm_model.specs.Steps.{Run}
+use Rattle.lsm_model.specs.Steps.{Made, Asked, Run}
 use Rattle.lsm_model.specs.Runs.{accepted_in}
 use Rattle.lsm_model.specs.Crashes.{Crashed, Closes, Opened}
 use Rattle.lsm_model.specs.Counts.{IsSynced}
@@ -17,7 +17,7 @@ pub data Ends (s t : State) : Type 0 where
   Given_up : t ≡ s → Ends s t
 
 -- one life: a run of these steps, its end, and the next opening, which leaves the second state
-pub record Life (s : State) (steps : List (Event × Reply)) (t : State) : Type 0 where
+pub record Life (s : State) (steps : List Made) (t : State) : Type 0 where
   pub end : State
   pub found : State
   pub run : Run s steps end
@@ -25,21 +25,21 @@ pub record Life (s : State) (steps : List (Event × Reply)) (t : State) : Type 0
   pub opened : Opened found t
 
 -- lives, one after another
-abbrev pub Lives : State → List (List (Event × Reply)) → State → Type 0
+abbrev pub Lives : State → List (List Made) → State → Type 0
 Lives s [] t = t ≡ s
 Lives s (steps ∷ lives) t = (next : State) × Life s steps next × Lives next lives t
 
 -- What a life leaves of its batches: a front of the accepted ones, perhaps with one more behind all of them whose write met a
 -- fault. All that were accepted up to a write with `sync` or a sync, answered Ok, are among them.
-pub record IsLeft (steps : List (Event × Reply)) (left : List (List Op)) : Type 0 where
+pub record IsLeft (steps : List Made) (left : List (List Op)) : Type 0 where
   pub doubtful : Option (List Op)
   pub gone : List (List Op)
   pub front : accepted_in steps ++ none_or_one doubtful ≡ left ++ gone
-  pub synced : (before after : List (Event × Reply)) (e : Event) (r : Reply) → steps ≡ before ++ (e, r) ∷ after → IsSynced e r
-      → (more : List (List Op)) × (left ≡ accepted_in (before ++ (e, r) ∷ []) ++ more)
+  pub synced : (before after : List Made) (e : Event) (r : Reply) → steps ≡ before ++ (Asked e r) ∷ after → IsSynced e r
+      → (more : List (List Op)) × (left ≡ accepted_in (before ++ (Asked e r) ∷ []) ++ more)
 
 -- what lives leave, one behind another
-abbrev pub AreLeft : List (List (Event × Reply)) → List (List Op) → Type 0
+abbrev pub AreLeft : List (List Made) → List (List Op) → Type 0
 AreLeft [] left = left ≡ []
 AreLeft (steps ∷ lives) left =
     (first : List (List Op)) × (rest : List (List Op)) × IsLeft steps first × AreLeft lives rest × (left ≡ first ++ rest)

@@ -16,6 +16,11 @@ use Rattle.lsm_model.specs.Checkpoints.{begin_refusal, size_rule}
 use Rattle.lsm_model.specs.Pins.{unpinned, flush_rule}
 use Rattle.lsm_model.specs.Reads.{ReadsAs}
 use Rattle.lsm_model.specs.Steps as answer_of
+use Rattle.lsm_model.specs.Steps.{Made, Asked, Began, Filed, Appended, Sealed, Finished, Closed_file, Closed_tables}
+use Rattle.lsm_model.specs.Moves.{Becomes}
+use Rattle.lsm_disk.specs.declared.calls.Halt.{Halt}
+use Rattle.lsm_disk.specs.declared.dest.DestError.{DestError}
+use Rattle.lsm_disk.specs.declared.dest.DestError.TheVariants as dest
 
 -- what a store knows against an event before it asks its disk
 abbrev pub known_refusal : Event → State → Option StoreError
@@ -112,3 +117,25 @@ pub data HasCause (s : State) (e : Event) (refusal : StoreError) (t : State) : T
       → MayAdd e s live adding → HasCause s e refusal t
   Name_taken : (dir : List ℕ) → refusal ≡ error.CheckpointExists dir → is_taken dir s ≡ true → HasCause s e refusal t
   Reads_so : (dir : List ℕ) → e ≡ event.Show dir → ReadsAs s dir (bytes_eq s.own dir) (Err refusal) → HasCause s e refusal t
+
+-- ---- a restore's calls
+
+-- the answer of a restore's call, where it is one
+abbrev pub restore_answer : Made → Option (Result (Unit {0}) DestError)
+restore_answer (Asked e r) = None
+restore_answer (Began dir result) = Some result
+restore_answer (Filed name result) = Some result
+restore_answer (Appended bytes result) = Some result
+restore_answer (Sealed result) = Some result
+restore_answer (Finished current result) = Some result
+restore_answer Closed_file = None
+restore_answer Closed_tables = None
+
+-- Each refusal of a restore's call has one of these causes: a halting call of before, which changes nothing; the disk, which
+-- failed and halts the store; the name of a folder that is taken, where one is begun; or want of memory. No other one comes.
+pub data HasRestoreCause (s : State) (made : Made) (refusal : DestError) (t : State) : Type 0 where
+  Was_halted : (first : Halt) → refusal ≡ dest.Halted first → s.halt ≡ Some first → t ≡ s → HasRestoreCause s made refusal t
+  Failed_disk : (first : Halt) → refusal ≡ dest.Fault → s.halt ≡ None → t.halt ≡ Some first → Rose s.faults t.faults → HasRestoreCause s made refusal t
+  Taken_name : (dir : List ℕ) → made ≡ Began dir (Err refusal) → refusal ≡ dest.Exists → s.halt ≡ None → is_taken dir s ≡ true → Becomes s t
+      → HasRestoreCause s made refusal t
+  Wanting_memory : refusal ≡ dest.NoMemory → s.halt ≡ None → Becomes s t → HasRestoreCause s made refusal t

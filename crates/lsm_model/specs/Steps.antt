@@ -1,5 +1,8 @@
 -- Which reply leads from which state to which, by the event; and runs of such steps.
-use Rattle.std.specs.Prelude.{◌≡◌, ℕ, Bool, List, [], ◌∷◌, Option, Some, None, Result}
+use Rattle.std.specs.Prelude.{◌≡◌, ℕ, Bool, List, [], ◌∷◌, map, Option, Some, None, Result}
+use Rattle.lsm_names.specs.declared.file_names.FileName.{FileName}
+use Rattle.lsm_disk.specs.declared.calls.DiskCall.TheVariants as disk
+use Rattle.lsm_disk.specs.declared.dest.DestError.{DestError}
 use Rattle.lsm_rows.specs.Replay.{Contents}
 use Rattle.lsm_model.specs.declared.errors.StoreError.{StoreError}
 use Rattle.lsm_model.specs.declared.cuts.Cut.{Cut}
@@ -20,6 +23,8 @@ use Rattle.lsm_model.specs.Reads.{Gets, Scans, TellsLast, TellsWantsFreeze, Show
 use Rattle.lsm_model.specs.Upkeep.{Freezes, StepsFlush, BeginsCompaction, StepsCompaction, Deletes}
 use Rattle.lsm_model.specs.Pins.{Cuts, ListsFiles, Unpins, Disables, Enables}
 use Rattle.lsm_model.specs.Checkpoints.{BeginsCheckpoint, StepsCheckpoint, FinishesCheckpoint, StopsCheckpoint}
+use Rattle.lsm_model.specs.Destination.{BeginsFolder, FillsFolder, FinishesFolder}
+use Rattle.lsm_model.specs.Moves.{Becomes}
 
 -- ---- the answer that a reply holds, where it is one to that call
 
@@ -148,7 +153,36 @@ Step s (event.Show dir) r t = Given (to_show r) (λ answer. Shows s dir answer t
 Step s (event.ShowPin pin) r t = Given (to_show_pin r) (λ answer. ShowsPin s pin answer t)
 Step s (event.ReadPinned pin name) r t = Given (to_read_pinned r) (λ answer. ReadsPinned s pin name answer t)
 
--- The events are answered by these replies, one after another.
-abbrev pub Run : State → List (Event × Reply) → State → Type 0
+-- ---- calls that are no events, and runs
+
+-- A call with its answer: an event with its reply; a call of the store as a place for one restored folder, which is begun,
+-- gets its files one by one and is finished; or one that takes views back, which answers nothing.
+pub data Made : Type 0 where
+  Asked : Event → Reply → Made
+  Began : (dir : List ℕ) → Result (Unit {0}) DestError → Made
+  Filed : FileName → Result (Unit {0}) DestError → Made
+  Appended : (bytes : List ℕ) → Result (Unit {0}) DestError → Made
+  Sealed : Result (Unit {0}) DestError → Made
+  Finished : (current : List ℕ) → Result (Unit {0}) DestError → Made
+  Closed_file : Made
+  Closed_tables : Made
+
+-- The call is answered so in the first state, and leaves the second. Views that are taken back may raise the disk's counts.
+abbrev pub Makes : State → Made → State → Type 0
+Makes s (Asked e r) t = Step s e r t
+Makes s (Began dir result) t = BeginsFolder s dir result t
+Makes s (Filed name result) t = FillsFolder disk.Create s result t
+Makes s (Appended bytes result) t = FillsFolder disk.Append s result t
+Makes s (Sealed result) t = FillsFolder disk.Sync s result t
+Makes s (Finished current result) t = FinishesFolder s result t
+Makes s Closed_file t = Becomes s t
+Makes s Closed_tables t = Becomes s t
+
+-- The calls are answered so, one after another.
+abbrev pub Run : State → List Made → State → Type 0
 Run s [] t = t ≡ s
-Run s (step ∷ steps) t = (mid : State) × Step s step.0 step.1 mid × Run mid steps t
+Run s (made ∷ steps) t = (mid : State) × Makes s made mid × Run mid steps t
+
+-- events with their replies, as what is made
+abbrev pub all_asked : List (Event × Reply) → List Made
+all_asked steps = map (λ (step : Event × Reply). Asked step.0 step.1) steps

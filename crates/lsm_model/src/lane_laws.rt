@@ -4,7 +4,7 @@ ghost use Rattle.std.specs.FinMap.{get};
 ghost use Rattle.lsm_rows.specs.declared.operations.Op.{Op};
 ghost use Rattle.lsm_rows.specs.Replay.{Contents, replayed};
 ghost use Rattle.lsm_model.specs.declared.states.State.{State};
-ghost use Rattle.lsm_model.specs.Steps.{Run};
+ghost use Rattle.lsm_model.specs.Steps.{Made, Asked, Run};
 ghost use Rattle.lsm_model.specs.Runs.{added_by, accepted_in, shown_behind};
 ghost use Rattle.lsm_model.specs.Lanes.{steps_of, own_entries, commits_of, own_commits, batches_of};
 
@@ -40,23 +40,23 @@ pub fn a_lane_sees_the_commits_before_it()
 /// What a reading answers is the replay of the batches that were accepted before it, and of no others. An accepted write
 /// before it has its batch there in its place.
 pub fn a_reading_shows_the_writes_before_it()
-    ensures get { (s t : State) (before after : List (Event × Reply)) (key : List ℕ) (value : Option (List ℕ))
-        → Run s (before ++ (Event.Get key, Reply.Get (Ok value)) ∷ after) t → value ≡ get (shown_behind s before).contents key }
-    ensures scan { (s t : State) (before after : List (Event × Reply)) (pairs : Contents)
-        → Run s (before ++ (Event.Scan, Reply.Scan (Ok pairs)) ∷ after) t → pairs ≡ (shown_behind s before).contents }
-    ensures last { (s t : State) (before after : List (Event × Reply)) (last : ℕ)
-        → Run s (before ++ (Event.Last, Reply.Last last) ∷ after) t → last ≡ (shown_behind s before).sequence }
-    ensures place { (before between : List (Event × Reply)) (ops : List Op) (sync : Bool) (last : ℕ)
-        → accepted_in (before ++ (Event.Write ops sync, Reply.Write (Ok last)) ∷ between) ≡ accepted_in before ++ ops ∷ accepted_in between }
+    ensures get { (s t : State) (before after : List Made) (key : List ℕ) (value : Option (List ℕ))
+        → Run s (before ++ (Asked (Event.Get key) (Reply.Get (Ok value))) ∷ after) t → value ≡ get (shown_behind s before).contents key }
+    ensures scan { (s t : State) (before after : List Made) (pairs : Contents)
+        → Run s (before ++ (Asked Event.Scan (Reply.Scan (Ok pairs))) ∷ after) t → pairs ≡ (shown_behind s before).contents }
+    ensures last { (s t : State) (before after : List Made) (last : ℕ)
+        → Run s (before ++ (Asked Event.Last (Reply.Last last)) ∷ after) t → last ≡ (shown_behind s before).sequence }
+    ensures place { (before between : List Made) (ops : List Op) (sync : Bool) (last : ℕ)
+        → accepted_in (before ++ (Asked (Event.Write ops sync) (Reply.Write (Ok last))) ∷ between) ≡ accepted_in before ++ ops ∷ accepted_in between }
 {}
 
 /// An accepted write answers the last sequence of all that was accepted up to it. Of two accepted writes the later one's
 /// answer is the greater, by the count of its operations at least.
 pub fn later_writes_have_greater_sequences()
-    ensures answer { (s t : State) (before after : List (Event × Reply)) (ops : List Op) (sync : Bool) (last : ℕ)
-        → Run s (before ++ (Event.Write ops sync, Reply.Write (Ok last)) ∷ after) t
-        → last ≡ (shown_behind s (before ++ (Event.Write ops sync, Reply.Write (Ok last)) ∷ [])).sequence }
-    ensures order { (s t : State) (before between after : List (Event × Reply)) (first second : List Op) (sync also : Bool) (earlier later : ℕ)
-        → Run s (before ++ (Event.Write first sync, Reply.Write (Ok earlier)) ∷ (between ++ (Event.Write second also, Reply.Write (Ok later)) ∷ after)) t
+    ensures answer { (s t : State) (before after : List Made) (ops : List Op) (sync : Bool) (last : ℕ)
+        → Run s (before ++ (Asked (Event.Write ops sync) (Reply.Write (Ok last))) ∷ after) t
+        → last ≡ (shown_behind s (before ++ (Asked (Event.Write ops sync) (Reply.Write (Ok last))) ∷ [])).sequence }
+    ensures order { (s t : State) (before between after : List Made) (first second : List Op) (sync also : Bool) (earlier later : ℕ)
+        → Run s (before ++ (Asked (Event.Write first sync) (Reply.Write (Ok earlier))) ∷ (between ++ (Asked (Event.Write second also) (Reply.Write (Ok later))) ∷ after)) t
         → earlier + length second ≤ later }
 {}

@@ -3,7 +3,7 @@
 ghost use Rattle.std.specs.Prelude.{◌≡◌, length, IfOk, OnErr};
 ghost use Rattle.std.specs.List.{zip};
 ghost use Rattle.lsm_model.specs.Plain.{empty_state};
-ghost use Rattle.lsm_model.specs.Steps.{Step, Run};
+ghost use Rattle.lsm_model.specs.Steps.{Step, Run, all_asked};
 
 use crate::plain::PlainLists;
 use crate::{Event, Reply};
@@ -53,7 +53,7 @@ impl PlainStore {
     /// Answers events, one after another, and gives their replies in the same order. The memory for the list of replies is
     /// asked for first: where it isn't there, no event is answered.
     pub fn play(&mut self, alloc: Global, events: Vec<Event>) -> Result<Vec<Reply>, NoMemory>
-        ensures run { IfOk result (λ replies. Run self.old (zip events.items replies.items) self.new) }
+        ensures run { IfOk result (λ replies. Run self.old (all_asked (zip events.items replies.items)) self.new) }
         ensures each { IfOk result (λ replies. length replies.items ≡ length events.items) }
         ensures err { OnErr result (self.new ≡ self.old) }
     {

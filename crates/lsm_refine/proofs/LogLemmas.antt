@@ -21,7 +21,7 @@ use Rattle.lsm_reading.specs.Parts.{may_end, IsLog, AreLogs}
 use Rattle.lsm_refine.specs.Parts.{LogPart, numbers_of, batches_in}
 use Rattle.lsm_refine.specs.Sane.{AreSynced}
 use Rattle.lsm_refine.specs.Fronts.{texts_from}
-use Rattle.lsm_refine.proofs.TiedLemmas.{sequence_both}
+use Rattle.lsm_rows.proofs.Replaying.{sequence_both}
 
 abbrev pub numbers_in : List (ℕ × List ℕ) → List ℕ
 numbers_in es = map (λ (e : ℕ × List ℕ). e.0) es

@@ -381,7 +381,7 @@ module _ (seen : Seen) (dir : List ℕ) (m : ℕ) (beside : List FileName) (fold
     pinned = record { pins = tt; files = All-nil (λ (pin : Pin). PinFiles (state_of story) dir pin.files) };
     folders = read;
     clear = has.clear;
-    counted = record { durable = omega arith; numbers = All-nil (λ (pin : Pin). pin.number ≤ 0); fronts = All-nil (λ (pin : Pin). pin.batches ≤ 0) };
+    counted = record { durable = omega arith; numbers = All-nil (λ (pin : Pin). pin.number ≤ 0); fronts = All-nil (λ (pin : Pin). pin.batches ≤ 0); begun = tt };
     kept = record { own = refl; sequence = refl; greatest_pin = refl; disables = refl; begun = refl; halt = refl };
     counts = record { faults = refl; refusals = refl };
   }

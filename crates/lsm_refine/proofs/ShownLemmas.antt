@@ -26,7 +26,8 @@ use Rattle.lsm_model.specs.States.{contents_now, active_batches}
 use Rattle.lsm_refine.specs.Kept.{Shown}
 use Rattle.lsm_refine.specs.Parts.{Parts, AreRowsOf, batches_in, logged, first_logged, first_in_last}
 use Rattle.lsm_refine.specs.Good.{AreInOrder, ShowsAccepted, IsRunning, IsInMode, Good, rows_kept, first_active}
-use Rattle.lsm_refine.proofs.TiedLemmas.{tables_before, replayed_both, sequence_both}
+use Rattle.lsm_refine.proofs.TiedLemmas.{tables_before}
+use Rattle.lsm_rows.proofs.Replaying.{sequence_next, sequence_both, replayed_both}
 
 -- ---- rows of two lists of batches
 
@@ -35,12 +36,6 @@ rows_both first [] two = refl
 rows_both first (ops ∷ one) two =
     ap (λ (rows : List Row). batch_rows first ops ++ rows) (rows_both (first + length ops) one two)
     ∙ sym (append_assoc (batch_rows first ops) (rows_of (first + length ops) one) (rows_of (sequence_after (first + length ops) one) two))
-
-sequence_next : (first : ℕ) (batches : List (List Op)) → sequence_after (first + 1) batches ≡ sequence_after first batches + 1
-sequence_next first [] = refl
-sequence_next first (ops ∷ batches) =
-    let moved : first + 1 + length ops ≡ first + length ops + 1 = omega arith in
-    ap (λ (n : ℕ). sequence_after n batches) moved ∙ sequence_next (first + length ops) batches
 
 sequence_grows : (first : ℕ) (batches : List (List Op)) → first ≤ sequence_after first batches
 sequence_grows first [] = omega arith

@@ -22,6 +22,7 @@ use Rattle.lsm_model.specs.declared.states.State.{State}
 use Rattle.lsm_refine.specs.Parts.{LogPart, Parts, batches_in, first_logged}
 use Rattle.lsm_refine.specs.Tied.{Tied}
 use Rattle.lsm_refine.specs.Fronts.{batches_with, ShowsFirst}
+use Rattle.lsm_rows.proofs.Replaying.{sequence_both, replayed_both}
 
 -- ---- rows of tables are older than those of logs
 
@@ -45,14 +46,6 @@ tables_before parts are =
 pub all_with : (older : List LogPart) (batches : List (List Op)) → all_of (map (λ (log : LogPart). log.batches) older ++ batches ∷ []) ≡ batches_in older ++ batches
 all_with [] batches = append-nil batches
 all_with (log ∷ logs) batches = ap (λ (l : List (List Op)). log.batches ++ l) (all_with logs batches) ∙ sym (append_assoc log.batches (batches_in logs) batches)
-
-pub replayed_both : (m : Contents) (one two : List (List Op)) → replayed (replayed m one) two ≡ replayed m (one ++ two)
-replayed_both m [] two = refl
-replayed_both m (ops ∷ one) two = replayed_both (fold applied m ops) one two
-
-pub sequence_both : (first : ℕ) (one two : List (List Op)) → sequence_after (sequence_after first one) two ≡ sequence_after first (one ++ two)
-sequence_both first [] two = refl
-sequence_both first (ops ∷ one) two = sequence_both (first + length ops) one two
 
 -- ---- the law
 

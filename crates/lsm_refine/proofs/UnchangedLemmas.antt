@@ -142,7 +142,7 @@ module _ (v : Shown) (s : State) (good : Good v s) (seen : Seen) (halt : Option 
     folders = subst (λ (e : disk.State). FoldersRead e (record (with_counts seen s) { halt = halt })) (sym now)
         (folders seen halt s d v (subst (λ (e : disk.State). FoldersRead e s) (sym was) good.folders));
     clear = subst AreClearable (sym now) (subst AreClearable (sym was) good.clear);
-    counted = record { durable = good.counted.durable; numbers = good.counted.numbers; fronts = good.counted.fronts };
+    counted = record { durable = good.counted.durable; numbers = good.counted.numbers; fronts = good.counted.fronts; begun = good.counted.begun };
     kept = kept_is seen halt s d v good.kept;
     counts = record { faults = refl; refusals = refl };
   }

@@ -17,12 +17,10 @@ use Rattle.lsm_version.specs.declared.tables.Placed.{Placed}
 use Rattle.lsm_version.specs.Levels.{IsLeveled}
 use Rattle.lsm_reading.specs.Needed.{IsAsListed}
 use Rattle.lsm_reading.specs.Parts.{rows_of_tables}
-use Rattle.lsm_model.specs.declared.events.Event.{Event}
-use Rattle.lsm_model.specs.declared.replies.Reply.{Reply}
 use Rattle.lsm_model.specs.declared.states.State.{State}
 use Rattle.lsm_model.specs.States.{contents_now, last_of, active_batches}
 use Rattle.lsm_model.specs.Counts.{IsCounted}
-use Rattle.lsm_model.specs.Steps.{Run}
+use Rattle.lsm_model.specs.Steps.{Made, Run}
 use Rattle.lsm_refine.specs.Kept.{Kept, Shown}
 use Rattle.lsm_refine.specs.Parts.{Parts, AreRowsOf}
 use Rattle.lsm_refine.specs.Sane.{Sane, HasTables}
@@ -108,9 +106,9 @@ pub record Good (v : Shown) (s : State) : Type 0 where
   pub kept : KeptIs v s
   pub counts : CountsAre v s
 
--- These events with their replies lead from the start to what is seen of a store: they are a run to a state for which the
--- store is good.
-pub record Leads (start : State) (steps : List (Event × Reply)) (v : Shown) : Type 0 where
+-- These calls with their answers, events and a restore's calls, lead from the start to what is seen of a store: they are a run
+-- to a state for which the store is good.
+pub record Leads (start : State) (steps : List Made) (v : Shown) : Type 0 where
   pub end : State
   pub run : Run start steps end
   pub good : Good v end

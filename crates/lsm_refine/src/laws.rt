@@ -22,7 +22,7 @@ ghost use Rattle.lsm_model.specs.declared.replies.Reply.{Reply};
 ghost use Rattle.lsm_model.specs.declared.states.FolderRead.{FolderRead};
 ghost use Rattle.lsm_model.specs.declared.states.PinnedFile.{PinnedFile};
 ghost use Rattle.lsm_model.specs.declared.states.State.{State};
-ghost use Rattle.lsm_model.specs.Steps.{Step};
+ghost use Rattle.lsm_model.specs.Steps.{Step, Made, Makes};
 ghost use Rattle.lsm_model.specs.Crashes.{Crashed};
 ghost use Rattle.lsm_refine.specs.Kept.{Kept, Shown};
 ghost use Rattle.lsm_refine.specs.Parts.{LogPart, Parts, batches_in};
@@ -150,15 +150,15 @@ pub fn pinned_files_stay()
         → PinFiles d dir files → PinFiles (after d c) dir files }
 {}
 
-/// The empty list of steps leads from a state to each store that is good for it. Steps that lead to a store lead on by one
-/// more, to a store that is good behind it; so they do by a call that does such a step for each state for which the store was
-/// good.
+/// The empty list of calls leads from a state to each store that is good for it. Calls that lead to a store, events and those
+/// of a restore, lead on by one more, to a store that is good behind it; so they do by a call that is made so of each state for
+/// which the store was good.
 pub fn steps_lead_on()
     ensures none { (s : State) (v : Shown) → Good v s → Leads s [] v }
-    ensures step { (start : State) (steps : List (Event × Reply)) (v w : Shown) (e : Event) (r : Reply) (t : State) → (leads : Leads start steps v)
-        → Step leads.end e r t → Good w t → Leads start (steps ++ (e, r) ∷ []) w }
-    ensures call { (start : State) (steps : List (Event × Reply)) (v w : Shown) (e : Event) (r : Reply)
-        → ((s : State) → Good v s → (t : State) × Step s e r t × Good w t) → Leads start steps v → Leads start (steps ++ (e, r) ∷ []) w }
+    ensures step { (start : State) (steps : List Made) (v w : Shown) (made : Made) (t : State) → (leads : Leads start steps v)
+        → Makes leads.end made t → Good w t → Leads start (steps ++ made ∷ []) w }
+    ensures call { (start : State) (steps : List Made) (v w : Shown) (made : Made)
+        → ((s : State) → Good v s → (t : State) × Makes s made t × Good w t) → Leads start steps v → Leads start (steps ++ made ∷ []) w }
 {}
 
 /// A new store, whose folder may have files of an opening that a crash cut off, is good for the state of an empty store with

@@ -1,9 +1,11 @@
-use Rattle.lsm_model.proofs.CountLemmas.{step_counted, run_counted, crashed_counted, opened_counted, closed_counted}
-use Rattle.lsm_model.proofs.RestoreLemmas.{restore_counted}
+use Rattle.lsm_model.proofs.CountLemmas.{step_counted, made_counted, run_counted, crashed_counted, opened_counted, closed_counted, restore_counted}
 use Rattle.lsm_model.proofs.laws.counts_go_with_lists.Goals as goal
 
 pub returns-clause-step : goal.returns-clause-step
 returns-clause-step c = step_counted
+
+pub returns-clause-call : goal.returns-clause-call
+returns-clause-call c = made_counted
 
 pub returns-clause-run : goal.returns-clause-run
 returns-clause-run c = run_counted

@@ -2,7 +2,7 @@ use Rattle.std.proofs.Common.{◌≡◌, ◌∷◌, [], ◌++◌, List, length, 
 use Rattle.std.specs.List.{zip}
 use Rattle.std.specs.Vec.Iter.{into_iter_items}
 use Rattle.lsm_model.specs.declared.replies.Reply.{Reply}
-use Rattle.lsm_model.specs.Steps.{Run}
+use Rattle.lsm_model.specs.Steps.{Run, all_asked}
 use Rattle.lsm_model.proofs.PlayLemmas.{play_more, one_more}
 use Rattle.lsm_model.proofs.store.PlainStore.play.Goals as goal
 
@@ -19,7 +19,7 @@ loop-event-preserved c =
       append_assoc at.yielded (x ∷ []) _ ∙ rw (← steps) at.invariant.0,
       omega arith,
       ap length items ∙ one_more at.replies.items at.yielded y x at.invariant.2,
-      subst (λ (rs : List Reply). Run c.args.self.now (zip (at.yielded ++ x ∷ []) rs) c.answer-reply.new.self) (sym items)
+      subst (λ (rs : List Reply). Run c.args.self.now (all_asked (zip (at.yielded ++ x ∷ []) rs)) c.answer-reply.new.self) (sym items)
           (play_more c.args.self.now at.self c.answer-reply.new.self at.yielded at.replies.items x y at.invariant.2 at.invariant.3 c.answer-reply.ensures),
       let room = at.invariant.4 in
           let len = c.in_ok-push.ensures.len in

@@ -1,0 +1,78 @@
+-- What the switch of `CURRENT` leaves, and the sync of names before it.
+use Rattle.std.specs.Prelude.{◌≡◌, ◌⊎◌, ℕ, List, Option, Some, Result, Ok, Err}
+use Rattle.std.proofs.Common.{⊎_elim, inl, inr}
+use Rattle.lsm_disk.specs.Names.{Moved}
+use Rattle.lsm_disk.specs.State.{State, Story, Change, after, state_of, names_synced}
+use Rattle.lsm_disk.specs.Images.{Tree, IsImage}
+use Rattle.lsm_disk.specs.Goes.{Shows, Went}
+use Rattle.lsm_disk.specs.Kept.{IsFileNow, IsKeptFile, OpSpares}
+use Rattle.lsm_disk.specs.Answers.{Makes, LeftBy, Allowed}
+use Rattle.lsm_disk.specs.Refusals.{never}
+use Rattle.lsm_disk.specs.declared.calls.DiskError.{DiskError}
+use Rattle.lsm_disk.specs.declared.calls.DiskRefusal.{DiskRefusal}
+use Rattle.lsm_disk.proofs.Named.{now_kept}
+use Rattle.lsm_disk.proofs.Kept.{kept_spared}
+use Rattle.lsm_disk.proofs.Runs.{went_start, went_weaker, went_ok, went_err, went_then}
+use Rattle.lsm_publish.specs.Publishing.{Old, StillHas, HasOldOrNew, Switches, IsReady, Switched, written}
+use Rattle.lsm_publish.proofs.Olds.{still_image, still_names, names_switch}
+use Rattle.lsm_publish.proofs.Switching.{whole_in}
+use Rattle.lsm_manifest.specs.Installing.{LeadsEither, HasLed}
+use Rattle.lsm_manifest.proofs.Carrying.{went_carried, switch_spares}
+
+module _ (temporary path other : List ℕ) (old : Old) (id k : ℕ) (bytes text : List ℕ) (spares : OpSpares other (Moved temporary path)) (story : Story) where
+  abbrev P : State → Tree → Type 0
+  P = LeadsEither path other old bytes text
+
+  abbrev Q : Change → Type 0
+  Q = Switches temporary path
+
+  -- both files are filled
+  abbrev Filled : State → Type 0
+  Filled s = StillHas path old s × IsFileNow s temporary id (written bytes) × IsFileNow s other k (written text)
+
+  abbrev KeptOther : State → Type 0
+  KeptOther s = IsKeptFile s other k (written text)
+
+  -- and their names are sure
+  abbrev Sure : State → Type 0
+  Sure s = IsReady temporary path old id bytes s × KeptOther s
+
+  abbrev Led : Result (Unit {0}) DiskRefusal → State → Type 0
+  Led result = HasLed {T = Unit {0}} temporary path other old id bytes k text result
+
+  shows_filled : (s : State) → Filled s → Shows P s
+  shows_filled s f = record { each = λ t i. inl (still_image path old s f.0 t i) }
+
+  shows_sure : (s : State) → Sure s → Shows P s
+  shows_sure s r = record { each = λ t i. inl (still_image path old s r.0.still t i) }
+
+  step_names : (s : State) → Filled s → Sure (after s (names_synced s))
+  step_names s f = (record { still = still_names path old s f.0; new = now_kept s temporary id (written bytes) f.1 }, now_kept s other k (written text) f.2)
+
+  keep : (s : State) (c : Change) → Q c → KeptOther s → KeptOther (after s c)
+  keep s c is kept = kept_spared s other k (written text) kept c (switch_spares temporary path other k c spares is)
+
+  shows : (s : State) (t : Tree) → KeptOther s → IsImage s t → HasOldOrNew path old bytes s t → P s t
+  shows s t kept image has = ⊎_elim (λ was. inl was) (λ new. inr (new, whole_in other k text s t kept image)) has
+
+  fits : (result : Result (Unit {0}) DiskRefusal) (s : State) → Switched temporary path old id bytes result s × KeptOther s → Led result s
+  fits (Ok value) s p = p
+  fits (Err r) s p = inr p
+
+  module _ {o1 : Option Story} (tells : o1 ≡ Some story) (filled : Filled (state_of story)) where
+    begun : Went story o1 Q P Filled
+    begun = went_start Filled tells filled shows_filled
+
+    module _ {o2 : Option Story} where
+      after_names : Makes o1 names_synced o2 → Went story o2 Q P Sure
+      after_names makes = went_ok Filled Sure names_synced makes (λ s f. names_switch temporary path s) step_names shows_sure begun
+
+      pub refused_names : (r : DiskRefusal) (e : DiskError) → r.at.path ≡ temporary → LeftBy (o2 ≡ o1) (Allowed never o1 × Makes o1 names_synced o2) e → Went story o2 Q P (Led (Err r))
+      refused_names r e at did = went_weaker (λ s. Filled s ⊎ Sure s) (Led (Err r)) (λ s. ⊎_elim (λ f. inl (at, f.0)) (λ w. inl (at, w.0.still)))
+          (went_err Filled Sure names_synced never e did (λ s f. names_switch temporary path s) step_names shows_sure begun)
+
+      pub then_switch : {o3 : Option Story} (result : Result (Unit {0}) DiskRefusal) → Makes o1 names_synced o2
+          → ((mid : Story) → o2 ≡ Some mid → IsReady temporary path old id bytes (state_of mid) → Went mid o3 Q (HasOldOrNew path old bytes) (Switched temporary path old id bytes result))
+          → Went story o3 Q P (Led result)
+      then_switch result makes next = went_then (after_names makes)
+          (λ mid here w. went_weaker _ (Led result) (fits result) (went_carried P KeptOther keep shows (Switched temporary path old id bytes result) w.1 (next mid here w.0)))

@@ -1,0 +1,12 @@
+pub mod Carrying
+pub mod Cuts
+pub mod Filling
+pub mod Following
+pub mod Images
+pub mod Installed
+pub mod Leading
+pub mod Names
+pub mod Placed
+pub mod Read
+pub mod Steps
+pub mod Texts

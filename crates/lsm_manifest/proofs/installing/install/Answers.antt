@@ -1,0 +1,24 @@
+-- Each exit, by what the parts before it left.
+use Rattle.std.specs.Prelude.{Ok, Err}
+use Rattle.lsm_manifest.proofs.Placed.{exit_new, exit_temporary, exit_led}
+use Rattle.lsm_manifest.proofs.installing.install.Goals as goal
+
+pub returns-in-Err-clause-went : goal.returns-in-Err-clause-went
+returns-in-Err-clause-went g c story dir number edit before tells is taken new temporary path text bytes still apart =
+    exit_new dir number edit before is taken apart c.args.places.now.manifest c.args.places.now.temporary c.args.places.now.current c.args.text.now c.args.current.now new temporary path text bytes story still
+    c.in-Err.refused c.in-Err.ensures.at (c.in-Err.ensures.went story tells)
+
+pub returns-in-Err-write_new-clause-went : goal.returns-in-Err-write_new-clause-went
+returns-in-Err-write_new-clause-went g c story dir number edit before tells is taken new temporary path text bytes still apart =
+    exit_temporary dir number edit before is taken apart c.args.places.now.manifest c.args.places.now.temporary c.args.places.now.current c.args.text.now c.args.current.now new temporary path text bytes story still
+    (c.in_default.ensures.went story tells) c.in-Err-write_new.refused c.in-Err-write_new.ensures.at (λ mid here. c.in-Err-write_new.ensures.went mid here)
+
+pub returns-in-Ok-clause-went : goal.returns-in-Ok-clause-went
+returns-in-Ok-clause-went g c story dir number edit before tells is taken new temporary path text bytes still apart =
+    exit_led dir number edit before is taken apart c.args.places.now.manifest c.args.places.now.temporary c.args.places.now.current c.args.text.now c.args.current.now new temporary path text bytes story still
+    (c.in_default.ensures.went story tells) (Ok (tt {0})) (λ mid here. c.in_default-write_new.ensures.went mid here) c.in-Ok.ensures.went
+
+pub returns-in-Err-lead-clause-went : goal.returns-in-Err-lead-clause-went
+returns-in-Err-lead-clause-went g c story dir number edit before tells is taken new temporary path text bytes still apart =
+    exit_led dir number edit before is taken apart c.args.places.now.manifest c.args.places.now.temporary c.args.places.now.current c.args.text.now c.args.current.now new temporary path text bytes story still
+    (c.in_default.ensures.went story tells) (Err c.in-Err-lead.refused) (λ mid here. c.in_default-write_new.ensures.went mid here) c.in-Err-lead.ensures.went

@@ -1,0 +1,131 @@
+-- A new manifest, and the switch of `CURRENT` to it.
+use Rattle.std.specs.Prelude.{◌≡◌, ◌≢◌, ◌⊎◌, ℕ, ◌≤◌, List, [], ◌∷◌, ◌++◌, Some, Result, Ok, Err}
+use Rattle.lsm_names.specs.FileNames.{spelled}
+use Rattle.lsm_names.specs.declared.file_names.FileName.TheVariants.{Manifest, Temp, Current}
+use Rattle.lsm_disk.specs.Names.{Moved}
+use Rattle.lsm_disk.specs.State.{State, Change, Created, Named, Appended, Synced, Names_synced, Idle}
+use Rattle.lsm_disk.specs.Images.{Tree, bytes_at}
+use Rattle.lsm_disk.specs.Kept.{IsFileNow, IsKeptFile, OpSpares}
+use Rattle.lsm_disk.specs.Dest.{path_in}
+use Rattle.lsm_disk.specs.Halts.{halt_at}
+use Rattle.lsm_disk.specs.Answers.{LeftBy}
+use Rattle.lsm_disk.specs.declared.calls.Halt.{Halt}
+use Rattle.lsm_disk.specs.declared.calls.DiskCall.{DiskCall}
+use Rattle.lsm_disk.specs.declared.calls.DiskCall.TheVariants as call
+use Rattle.lsm_disk.specs.declared.calls.DiskError.{DiskError}
+use Rattle.lsm_disk.specs.declared.calls.DiskRefusal.{DiskRefusal}
+use Rattle.lsm_publish.specs.Publishing.{Old, StillHas, ShowsOld, IsMove, IsPublished, Switched, written, write_calls, switch_calls}
+use Rattle.lsm_version.specs.declared.edits.Edit.{Edit}
+use Rattle.lsm_manifest.specs.Texts.{manifest_text}
+use Rattle.lsm_manifest.specs.Standing.{Stands}
+
+-- what `CURRENT` holds for the manifest of this number: its name and a newline
+abbrev pub current_text : ℕ → List ℕ
+current_text number = spelled (Manifest number) ++ 10 ∷ []
+
+-- the paths: of `CURRENT`, of the manifest of this number, and of the temporary file that becomes
+-- `CURRENT`
+abbrev pub current_path : List ℕ → List ℕ
+current_path dir = path_in dir Current
+
+abbrev pub manifest_path : List ℕ → ℕ → List ℕ
+manifest_path dir number = path_in dir (Manifest number)
+
+abbrev pub temporary_path : List ℕ → ℕ → List ℕ
+temporary_path dir number = path_in dir (Temp number)
+
+-- What there was before: what `CURRENT` had, and what the name of the manifest had to which it led.
+pub record Before : Type 0 where
+  pub current : Old
+  pub path : List ℕ
+  pub manifest : Old
+
+-- both have still what they had
+pub record StillBefore (dir : List ℕ) (before : Before) (s : State) : Type 0 where
+  pub current : StillHas (current_path dir) before.current s
+  pub manifest : StillHas before.path before.manifest s
+
+-- the image has both
+abbrev pub ShowsBefore : List ℕ → Before → Tree → Type 0
+ShowsBefore dir before t = ShowsOld (current_path dir) before.current t × ShowsOld before.path before.manifest t
+
+-- in the image `CURRENT` names the new manifest, which is whole
+pub record ShowsNew (dir : List ℕ) (number : ℕ) (edit : Edit) (t : Tree) : Type 0 where
+  pub current : bytes_at t (current_path dir) ≡ Some (current_text number)
+  pub manifest : bytes_at t (manifest_path dir number) ≡ Some (manifest_text (edit ∷ []))
+
+-- In the image `CURRENT` has what it had, and the manifest of before is as it was; or it names the
+-- new one, which is whole.
+abbrev pub NamesOldOrNew : List ℕ → ℕ → Edit → Before → State → Tree → Type 0
+NamesOldOrNew dir number edit before s t = ShowsBefore dir before t ⊎ ShowsNew dir number edit t
+
+-- the earlier manifest has another name than the files that are written, and none inside them
+pub record IsApart (dir : List ℕ) (number : ℕ) (path : List ℕ) : Type 0 where
+  pub new : path ≢ manifest_path dir number
+  pub temporary : path ≢ temporary_path dir number
+  pub moved : OpSpares path (Moved (temporary_path dir number) (current_path dir))
+
+-- the changes: two files are made, filled and synced, the second is renamed, and names are synced
+abbrev pub Installs : List ℕ → ℕ → ℕ → Change → Type 0
+Installs dir number first (Created other) = (other ≡ manifest_path dir number) ⊎ (other ≡ temporary_path dir number)
+Installs dir number first (Named op) = IsMove (temporary_path dir number) (current_path dir) op
+Installs dir number first (Appended k bytes) = first ≤ k
+Installs dir number first (Synced k) = first ≤ k
+Installs dir number first Names_synced = Unit {0}
+Installs dir number first Idle = Unit {0}
+
+-- the calls of the disk in their order
+abbrev pub new_calls : List ℕ → List Halt
+new_calls path = halt_at call.Create path ∷ halt_at call.Append path ∷ halt_at call.Sync path ∷ []
+
+abbrev pub install_calls : List ℕ → ℕ → List Halt
+install_calls dir number = new_calls (manifest_path dir number) ++ write_calls (temporary_path dir number) ++ switch_calls (current_path dir)
+
+-- the name leads now to the new file
+abbrev pub LeadsNow : List ℕ → ℕ → State → Type 0
+LeadsNow dir number s = (id : ℕ) × IsFileNow s (current_path dir) id (written (current_text number))
+
+-- What a refused call on `CURRENT` left of it: a rename the old file, or where it was a fault the
+-- old or the new one; the sync behind it the new one, perhaps not for good.
+abbrev pub CurrentLeft : List ℕ → ℕ → Old → DiskCall → DiskError → State → Type 0
+CurrentLeft dir number old call.Rename why s = LeftBy (StillHas (current_path dir) old s) (LeadsNow dir number s) why
+CurrentLeft dir number old call.SyncNames why s = LeadsNow dir number s
+CurrentLeft dir number old other why s = ⊥
+
+-- `CURRENT` names the new manifest for good, and both are whole
+pub record IsInstalled (dir : List ℕ) (number : ℕ) (edit : Edit) (s : State) : Type 0 where
+  pub stands : Stands s (manifest_path dir number) (edit ∷ [])
+  pub id : ℕ
+  pub current : IsPublished (current_path dir) id (current_text number) s
+
+-- What an installing leaves. Ok: the new manifest. A refusal of a call on `CURRENT`: the new
+-- manifest stands, and `CURRENT` as that call left it. Any other refusal: `CURRENT` has what it
+-- had. The manifest of before is as it was throughout.
+abbrev pub Leaves : {T : Type 0} → List ℕ → ℕ → Edit → Before → Result T DiskRefusal → State → Type 0
+Leaves dir number edit before (Ok value) s = IsInstalled dir number edit s × StillHas before.path before.manifest s
+Leaves dir number edit before (Err r) s =
+    (r.at.path ≢ current_path dir → StillHas (current_path dir) before.current s)
+    × (r.at.path ≡ current_path dir → Stands s (manifest_path dir number) (edit ∷ []) × CurrentLeft dir number before.current r.at.call r.why s)
+    × StillHas before.path before.manifest s
+
+-- ---- of the parts
+
+-- nothing is said of an image
+abbrev pub Anything : State → Tree → Type 0
+Anything s t = Unit {0}
+
+-- a new file of these bytes, all of them synced, whose name is not yet sure
+abbrev pub IsFilled : {T : Type 0} → List ℕ → ℕ → List ℕ → Result T DiskRefusal → State → Type 0
+IsFilled path id bytes (Ok value) s = IsFileNow s path id (written bytes)
+IsFilled path id bytes (Err r) s = Unit {0}
+
+-- The name has in the image what it had, or the new bytes, and then the other file is whole.
+abbrev pub LeadsEither : List ℕ → List ℕ → Old → List ℕ → List ℕ → State → Tree → Type 0
+LeadsEither path other old bytes text s t = ShowsOld path old t ⊎ ((bytes_at t path ≡ Some bytes) × (bytes_at t other ≡ Some text))
+
+-- The name leads to the file for good and the other file is kept; or a call was refused, before the
+-- switch or in it.
+abbrev pub HasLed : {T : Type 0} → List ℕ → List ℕ → List ℕ → Old → ℕ → List ℕ → ℕ → List ℕ → Result T DiskRefusal → State → Type 0
+HasLed temporary path other old id bytes k text (Ok value) s = IsPublished path id bytes s × IsKeptFile s other k (written text)
+HasLed temporary path other old id bytes k text (Err r) s =
+    ((r.at.path ≡ temporary) × StillHas path old s) ⊎ (Switched temporary path old id bytes (Err r) s × IsKeptFile s other k (written text))
