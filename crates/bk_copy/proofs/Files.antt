@@ -16,6 +16,7 @@ use Rattle.lsm_publish.proofs.Olds.{file_writes}
 use Rattle.bk_copy.specs.Counts.{AreLater}
 use Rattle.bk_copy.specs.OnDisk.{Whatever, Anything, IsFilled, HasGained, HasStopped}
 use Rattle.lsm_disk.proofs.Cuts.{longer_twice}
+use Rattle.lsm_publish.proofs.Answering.{shows_anything}
 
 pub later_same : (seen : Seen) → AreLater seen seen
 later_same seen = record { faults = omega arith; refusals = omega arith }
@@ -26,12 +27,9 @@ later_trans a b c x y = record { faults = omega (arith, x.faults, y.faults); ref
 abbrev pub Came : List ℕ → ℕ → Story → Option Story → (State → Type 0) → Type 0
 Came path id start told I = Went start told (Writes path id) Anything I
 
-pub shows : (I : State → Type 0) (s : State) → I s → Shows Anything s
-shows I s i = record { each = λ t image. tt }
-
 module _ (path : List ℕ) (id : ℕ) {start : Story} where
   pub begins : {told : Option Story} (I : State → Type 0) → told ≡ Some start → I (state_of start) → Came path id start told I
-  begins I tells now = went_start I tells now (shows I)
+  begins I tells now = went_start I tells now (shows_anything I)
 
   pub forgets : {told : Option Story} (I : State → Type 0) → Came path id start told I → Came path id start told Whatever
   forgets I w = went_weaker I Whatever (λ s i. tt) w
@@ -41,13 +39,13 @@ module _ (path : List ℕ) (id : ℕ) {start : Story} where
     appends text more makes w = went_ok (IsFilled path id text) (IsFilled path id (text ++ more)) (appended path more) makes
         (λ s now. file_writes path id (appended path more s) (appends_in_now s path id (longer text new_file) now more))
         (λ s now. subst (IsFileNow (after s (appended path more s)) path id) (longer_twice new_file text more) (now_appended s path id (longer text new_file) now more))
-        (shows (IsFilled path id (text ++ more))) w
+        (shows_anything (IsFilled path id (text ++ more))) w
 
     append_refused : (text more : List ℕ) (e : DiskError) → LeftBy (new ≡ old) (Allowed (no_file path) old × MakesFront path more old new) e → Came path id start old (IsFilled path id text) → Came path id start new Whatever
     append_refused text more e did w = went_weaker _ Whatever (λ s i. tt)
         (went_append_err (IsFilled path id text) (λ n. Whatever) path more e did
         (λ n s now. file_writes path id (appended path (take n more) s) (appends_in_now s path id (longer text new_file) now (take n more)))
-        (λ n s now. tt) (λ n. shows Whatever) w)
+        (λ n s now. tt) (λ n. shows_anything Whatever) w)
 
 pub risen_since : (old mid new : Seen) (e : DiskError) → AreLater old mid → HasRisen mid new e → HasRisen old new e
 risen_since old mid new Fault later rose = omega (arith, later.faults, rose)

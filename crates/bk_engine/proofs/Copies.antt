@@ -18,11 +18,12 @@ use Rattle.bk_copy.specs.declared.copying.CopyError.{CopyError}
 use Rattle.bk_copy.specs.declared.copying.CopyError.TheVariants as errors
 use Rattle.bk_copy.specs.OnDisk.{Fills, HasGained}
 use Rattle.bk_copy.specs.OnDisk as copies
-use Rattle.bk_copy.proofs.Files.{Came, shows, begins}
+use Rattle.bk_copy.proofs.Files.{Came, begins}
 pub use Rattle.bk_copy.proofs.Files.{forgets}
 use Rattle.bk_engine.specs.Copying.{Whatever, IsFilled, IsSealed}
 use Rattle.bk_engine.specs.Stopping.{HasStopped, HasStopCause}
 use Rattle.bk_engine.specs.declared.stopping.Stop.{Stop}
+use Rattle.lsm_publish.proofs.Answering.{shows_anything}
 
 kind_sync : (path : List ℕ) (id : ℕ) (text : List ℕ) (s : State) → IsFilled path id text s → Writes path id (file_synced path s)
 kind_sync path id text s now = file_writes path id (file_synced path s) (syncs_in_now s path id (longer text new_file) now)
@@ -30,11 +31,11 @@ kind_sync path id text s now = file_writes path id (file_synced path s) (syncs_i
 module _ (path : List ℕ) (id : ℕ) {start : Story} where
   module _ {old new : Option Story} where
     pub syncs : (text : List ℕ) → Makes old (file_synced path) new → Came path id start old (IsFilled path id text) → Came path id start new (IsSealed path id text)
-    syncs text makes w = went_ok (IsFilled path id text) (IsSealed path id text) (file_synced path) makes (kind_sync path id text) (λ s now. now_synced s path id (longer text new_file) now) (shows (IsSealed path id text)) w
+    syncs text makes w = went_ok (IsFilled path id text) (IsSealed path id text) (file_synced path) makes (kind_sync path id text) (λ s now. now_synced s path id (longer text new_file) now) (shows_anything (IsSealed path id text)) w
 
     pub sync_refused : (text : List ℕ) (refusal : State → Option DiskError) (e : DiskError) → LeftBy (new ≡ old) (Allowed refusal old × Makes old (file_synced path) new) e → Came path id start old (IsFilled path id text) → Came path id start new Whatever
     sync_refused text refusal e did w = went_weaker _ Whatever (λ s i. tt)
-        (went_err (IsFilled path id text) Whatever (file_synced path) refusal e did (kind_sync path id text) (λ s now. tt) (shows Whatever) w)
+        (went_err (IsFilled path id text) Whatever (file_synced path) refusal e did (kind_sync path id text) (λ s now. tt) (shows_anything Whatever) w)
 
 -- ---- the whole file
 
@@ -51,11 +52,11 @@ new_now path story s is = subst (λ (n : ℕ). IsFileNow (after s (created path 
 
 module _ (path : List ℕ) (story : Story) {o1 o2 : Option Story} (tells : o1 ≡ Some story) where
   pub creates : Makes o1 (created path) o2 → Came path (length (state_of story).files) story o2 (Made path story)
-  creates makes = went_ok (Before story) (Made path story) (created path) makes (λ s is. refl) (new_now path story) (shows (Made path story)) (begins path (length (state_of story).files) (Before story) tells refl)
+  creates makes = went_ok (Before story) (Made path story) (created path) makes (λ s is. refl) (new_now path story) (shows_anything (Made path story)) (begins path (length (state_of story).files) (Before story) tells refl)
 
   pub create_refused : (e : DiskError) → LeftBy (o2 ≡ o1) (Allowed (no_room path) o1 × Makes o1 (created path) o2) e → Came path (length (state_of story).files) story o2 Whatever
   create_refused e did = went_weaker _ Whatever (λ s i. tt)
-      (went_err (Before story) Whatever (created path) (no_room path) e did (λ s is. refl) (λ s is. tt) (shows Whatever) (begins path (length (state_of story).files) (Before story) tells refl))
+      (went_err (Before story) Whatever (created path) (no_room path) e did (λ s is. refl) (λ s is. tt) (shows_anything Whatever) (begins path (length (state_of story).files) (Before story) tells refl))
 
   -- what came after the file was made
   pub copy_after : {o3 : Option Story} (I : State → Type 0) → Makes o1 (created path) o2

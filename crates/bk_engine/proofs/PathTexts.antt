@@ -20,12 +20,7 @@ use Rattle.bk_meta.specs.BackupFiles.{path_of}
 use Rattle.bk_tree.specs.Places.{meta_path}
 use Rattle.bk_engine.specs.Paths.{own_folder, temporary_path}
 use Rattle.std.proofs.lemmas.Bool.{and_parts}
-
-first_digit : (digits : List ℕ) → 0 < length digits → list_all is_ascii_digit digits ≡ true → is_ascii_alphanumeric (slice_index digits 0) ≡ true
-first_digit [] some h = absurd (omega (arith, some))
-first_digit (digit ∷ digits) some h =
-    let cut = and_parts (is_ascii_digit digit) (list_all is_ascii_digit digits) h in
-    digit_is_alphanumeric digit cut.0
+use Rattle.bk_meta.proofs.FileLemmas.{first_digit, identifier_is_component, private_is_path}
 
 pub short_decimal : (id : ℕ) → id < 2 ^ 32 → length (decimal id) ≤ 10
 short_decimal id small = length-decimal-le 10 id (omega arith) (omega arith) (omega arith)
@@ -38,14 +33,6 @@ decimal_some id small = decimal_nonempty id (omega arith)
 
 decimal_bytes : (id : ℕ) → id < 2 ^ 32 → list_all is_component_byte (decimal id) ≡ true
 decimal_bytes id small = list_all-weaker is_ascii_digit is_component_byte digit_is_component_byte (decimal id) (decimal_digits id small)
-
-identifier_is_component : (id : ℕ) → id < 2 ^ 32 → is_component (decimal id) ≡ true
-identifier_is_component id small =
-    component_of_parts (decimal id) (decimal_some id small) (omega (arith, short_decimal id small)) (decimal_bytes id small) (not_dots (decimal id) (first_digit (decimal id) (decimal_some id small) (decimal_digits id small)))
-
-private_is_path : is_path (codes "private") ≡ true
-unfolding is_path is_component is_component_byte is_dots
-private_is_path = refl
 
 meta_is_path : is_path (codes "meta") ≡ true
 unfolding is_path is_component is_component_byte is_dots

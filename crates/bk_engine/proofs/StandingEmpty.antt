@@ -27,12 +27,9 @@ use Rattle.lsm_folder.proofs.NameLemmas.{same_text, manifest_again}
 use Rattle.lsm_folder.proofs.LiveLemmas.{live_text, get_logs, same_entries}
 use Rattle.lsm_folder.proofs.StandingLemmas.{lawful}
 use Rattle.bk_engine.specs.Standing.{HasNoLog}
+use Rattle.lsm_folder.proofs.OneLogLemmas.{edit_again, first_manifest}
 
 -- ---- a manifest of one edit
-
-edit_again : edit_of (edit_text first_edit) ≡ Some first_edit
-unfolding edit_of
-edit_again = ap (λ (b : Bool). cond b (Some first_edit) None) (same_text (edit_text first_edit))
 
 no_two : {A : Type 0} (x y z : A) (more : List A) → y ∷ z ∷ more ≡ x ∷ [] → ⊥
 no_two x y z more e = cc
@@ -43,14 +40,6 @@ one_edit name (r ∷ []) is =
     let first : r.1 ≡ edit_text first_edit = cc in
     ap (λ (o : Option Edit). some_or (Malformed name r.0) o >>= λ (edit : Edit). Ok (edit ∷ [])) (ap edit_of first ∙ edit_again)
 one_edit name (r ∷ q ∷ rs) is = absurd (no_two (edit_text first_edit) r.1 q.1 (map (λ (r : ℕ × List ℕ). r.1) rs) is)
-
-first_manifest : (name : FileName) → edits_said name (manifest_text (first_edit ∷ [])) ≡ Ok (first_edit ∷ [])
-unfolding edits_said
-first_manifest name =
-    let text = manifest_text (first_edit ∷ []) in
-    let is = front_log (edit_text first_edit ∷ []) in
-    ap (λ (end : Ending). edits_in name (records_of text).0 end >>= some_edits name) is.1
-    ∙ ap (λ (r : Result (List Edit) Refusal). r >>= some_edits name) (one_edit name (records_of text).0 is.0)
 
 -- ---- a folder without any log
 

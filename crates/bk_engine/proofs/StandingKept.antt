@@ -24,6 +24,7 @@ use Rattle.bk_tree.proofs.Sparing.{within}
 use Rattle.bk_engine.specs.Copying.{Whatever, Anything}
 use Rattle.bk_engine.specs.Leaving.{LeavesFolder, SparesFolder, HasNoNameOf}
 use Rattle.std.proofs.lemmas.Bool.{and_parts}
+use Rattle.bk_meta.proofs.FileLemmas.{by_difference}
 
 -- ---- names at a folder and in it
 
@@ -185,13 +186,9 @@ behind_in (c ∷ dir) path on = ap (λ (l : List ℕ). is_some (under (c ∷ dir
 root_holds : (dir path : List ℕ) → dir ≡ [] → is_in dir path ≡ true
 root_holds dir path is = ap (λ (l : List ℕ). is_in l path) is
 
-never : (b : Bool) → (b ≡ true → ⊥) → b ≡ false
-never true h = absurd (h refl)
-never false h = refl
-
 -- what is in the one isn't in the other
 pub out_of : (dir other path : List ℕ) → is_in dir other ≡ false → is_in other dir ≡ false → is_in dir path ≡ true → is_in other path ≡ false
-out_of dir other path apart away inside = never (is_in other path) (λ there. clash (is_behind dir path inside) (is_behind other path there)) where
+out_of dir other path apart away inside = by_difference (is_in other path) (λ there. clash (is_behind dir path inside) (is_behind other path there)) where
   differ : (b : Bool) → b ≡ true → b ≡ false → ⊥
   differ b holds none = cc
 
@@ -216,7 +213,7 @@ no_slash [] rest h =
 no_slash (c ∷ front) rest h = no_slash front rest (and_parts (is_component_byte c) (list_all is_component_byte (front ++ 47 ∷ rest)) h).1
 
 pub roots_apart : (dir other : List ℕ) → is_component dir ≡ true → is_component other ≡ true → dir ≢ other → is_in dir other ≡ false
-roots_apart dir other first second differ = never (is_in dir other) (λ inside. ⊎_elim
+roots_apart dir other first second differ = by_difference (is_in dir other) (λ inside. ⊎_elim
     (λ on. by_rest on.rest on.is on.tail)
     (λ root. absurd (omega (arith, component_has_bytes dir first, ap length root)))
     (is_behind dir other inside)) where

@@ -23,22 +23,18 @@ use Rattle.lsm_disk.proofs.Runs.{went_weaker, went_wider}
 use Rattle.bk_engine.specs.Copying.{Whatever, Anything}
 use Rattle.bk_engine.specs.Leaving.{HasNoNameOf}
 use Rattle.bk_engine.proofs.StandingKept.{went_keeping}
+use Rattle.lsm_disk.proofs.Built.{tail_append, in_trans}
+use Rattle.lsm_disk.proofs.Files.{same_some}
+use Rattle.lsm_folder.proofs.LiveLemmas.{all_below}
 
 -- no name at the folder or in it leads to one of the first so many files
 abbrev pub LeadsToNew : List ℕ → ℕ → Names → Type 0
 LeadsToNew folder first names = (path : List ℕ) (id : ℕ) → is_in folder path ≡ true → map.get names path ≡ Some (File_node id) → first ≤ id
 
-some_of : {A : Type 0} (x y : A) → Some x ≡ Some y → x ≡ y
-some_of x y e = cc
-
 same_id : (k id : ℕ) → Some (File_node k) ≡ Some (File_node id) → k ≡ id
 same_id k id e = cc
 
 -- ---- sorted entries
-
-all_below : (a b : Bool) → T (a && b) → T a × T b
-all_below true b h = (tt, h)
-all_below false b h = absurd h
 
 not_less : (o : Ordering) → T (is_lt o) → is_eq o ≡ false
 not_less Less h = refl
@@ -73,21 +69,6 @@ module _ (Q : List ℕ → Node → Type 0) where
         look e.0 e.1 (ap (λ (b : Bool). cond b (Some e.1) (map.find path_cmp e.0 es)) (path_itself e.0)),
         each_has es parts.1 (λ q node found. look q node (later_by e es q node (eq_by_cmp path_cmp q e.0) refl parts.0 found)),
       )
-
--- ---- what is in a folder that is in another
-
-tail_append : (r rest : List ℕ) → under [] r ≡ Some r → under [] rest ≡ Some rest → under [] (r ++ rest) ≡ Some (r ++ rest)
-tail_append [] rest tail more = more
-tail_append (c ∷ r) rest tail more = elim (c == 47) as (λ b. cond b (Some (c ∷ r)) None ≡ Some (c ∷ r) → cond b (Some (c ∷ r ++ rest)) None ≡ Some (c ∷ r ++ rest)) [ true ↦ λ h. refl | false ↦ λ h. cc ] tail
-
-in_trans : (folder p path rest : List ℕ) → is_in folder p ≡ true → under p path ≡ Some rest → is_in folder path ≡ true
-in_trans [] p path rest inside is = refl
-in_trans (c ∷ folder) p path rest inside is = by_rest (under (c ∷ folder) p) refl inside where
-  by_rest : (o : Option (List ℕ)) → under (c ∷ folder) p ≡ o → is_some o ≡ true → is_in (c ∷ folder) path ≡ true
-  by_rest None e some = cc
-  by_rest (Some r) e some =
-      let same : path ≡ (c ∷ folder) ++ (r ++ rest) = under_is p path rest is ∙ ap (λ (l : List ℕ). l ++ rest) (under_is (c ∷ folder) p r e) ∙ append_assoc (c ∷ folder) r rest in
-      ap (λ (l : List ℕ). is_some (under (c ∷ folder) l)) same ∙ ap is_some (under_append (c ∷ folder) (r ++ rest) (tail_append r rest (under_tail (c ∷ folder) p r e) (under_tail p path rest is)))
 
 -- ---- each operation
 
@@ -128,7 +109,7 @@ module _ (folder : List ℕ) (first : ℕ) where
     module _ (path : List ℕ) (inside : is_in folder path ≡ true) (id : ℕ) where
       found_by : (e : List ℕ × Node) (rest : Option Node) (b : Bool) → eq_by_cmp path_cmp path (renamed_to to e.0 (under from e.0)) ≡ b → IsNew e.0 e.1 → (rest ≡ Some (File_node id) → first ≤ id)
           → cond b (Some e.1) rest ≡ Some (File_node id) → first ≤ id
-      found_by e rest true same new later is = new id (moved_by e path (under from e.0) refl (same_path path (renamed_to to e.0 (under from e.0)) same) inside) (some_of e.1 (File_node id) is)
+      found_by e rest true same new later is = new id (moved_by e path (under from e.0) refl (same_path path (renamed_to to e.0 (under from e.0)) same) inside) (same_some e.1 (File_node id) is)
       found_by e rest false other new later is = later is
 
       found_moved : (es : Entries) → Have IsNew es → map.find path_cmp path (moved_entries from to es) ≡ Some (File_node id) → first ≤ id

@@ -32,9 +32,7 @@ use Rattle.bk_restore.specs.Wrong.{others, currents}
 use Rattle.bk_restore.specs.Restored.{AreRestored, IsFolderOf}
 use Rattle.bk_restore.specs.Held.{entries_of_parts, files_of, is_current_name, current_first}
 use Rattle.bk_restore.proofs.Holding.{parts_held}
-
-some_of : {A : Type 0} (x y : A) → Some x ≡ Some y → x ≡ y
-some_of x y e = cc
+use Rattle.lsm_disk.proofs.Files.{same_some}
 
 -- ---- the files of a folder are its parts
 
@@ -53,7 +51,7 @@ module _ (dir : List ℕ) (t : Tree) where
       record {
         bytes = part.bytes;
         fits = subst IsFileName equal fits;
-        is = sym (some_of (A_file part.bytes) item is);
+        is = sym (same_some (A_file part.bytes) item is);
         at = subst (λ (n : FileName). bytes_at t (path_in dir n) ≡ Some part.bytes) equal has;
       }
   there_by name part parts item false other has fits rest is = rest is
@@ -216,4 +214,4 @@ restored_held story meta whole there is =
 pub restored_stands : (story : Story) (meta : Meta) (whole : List Part) (files : Files) (contents : Contents) (sequence : ℕ) → meta_in (tree_now (state_of story)) meta.id ≡ Some meta → held (tree_now (state_of story)) meta.id ≡ Some files
     → Stands files contents sequence → IsFolderOf meta (Some story) whole → Stands (files_of whole) contents sequence
 restored_stands story meta whole files contents sequence there holds standing is =
-    subst (λ (f : Files). Stands f contents sequence) (some_of files (files_of whole) (sym holds ∙ restored_held story meta whole there is)) standing
+    subst (λ (f : Files). Stands f contents sequence) (same_some files (files_of whole) (sym holds ∙ restored_held story meta whole there is)) standing

@@ -46,11 +46,23 @@ own_files id (name ∷ names) (bytes ∷ texts) = own_file id name bytes ∷ own
 
 -- the meta of a backup of these files, with no metadata
 abbrev pub plain_meta : ℕ → ℕ → ℕ → List FileName → List (List ℕ) → Meta
-plain_meta id timestamp sequence names texts = record { id = id; timestamp = timestamp; sequence = sequence; metadata = []; files = own_files id names texts }
+plain_meta id timestamp sequence names texts = record {
+  id = id;
+  timestamp = timestamp;
+  sequence = sequence;
+  metadata = [];
+  files = own_files id names texts;
+}
 
 -- what a meta says of its backup
 abbrev pub info_of : Meta → BackupInfo
-info_of meta = record { id = meta.id; timestamp = meta.timestamp; sequence = meta.sequence; files = length meta.files; metadata = meta.metadata }
+info_of meta = record {
+  id = meta.id;
+  timestamp = meta.timestamp;
+  sequence = meta.sequence;
+  files = length meta.files;
+  metadata = meta.metadata;
+}
 
 -- ---- what a stop answers, and whether it halts
 

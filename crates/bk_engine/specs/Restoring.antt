@@ -37,11 +37,13 @@ answered (Ok sequence) = Ok sequence
 answered (Err e) = Err (engine_error e)
 
 -- The backup of this meta was restored into the folder, or refused: what the backup disk was and is seen as, and the destination.
-pub record Restores (meta : Meta) (disk disk_now : Seen) (dest dest_now : DestSeen) (dir : List ℕ) (r : Result ℕ RestoreError) : Type 0 where
+pub record Restores (meta : Meta) (disk disk_now : Seen) (dest dest_now : DestSeen) (dir : List ℕ)
+    (r : Result ℕ RestoreError) : Type 0 where
   pub sequence : IfOk r (λ sequence. sequence ≡ meta.sequence)
   pub halted : (first : Halt) → (r ≡ Err (restore.Halted first)) ↔ (dest.halt ≡ Some first)
   pub taken : TakesBy dir dest.disk.told r
   pub right : IfSome disk.told (λ story. Tells (first_wrong meta.id (tree_now (state_of story)) (in_order meta.id meta.files)) r)
   pub went : (story : Story) → dest.disk.told ≡ Some story
-      → Went story dest_now.disk.told (IsWithin dir (length (state_of story).files)) (MayHaveRestored meta disk.told (state_of story) dir) (LeavesBy meta disk.told (state_of story) dir r)
+      → Went story dest_now.disk.told (IsWithin dir (length (state_of story).files))
+      (MayHaveRestored meta disk.told (state_of story) dir) (LeavesBy meta disk.told (state_of story) dir r)
   pub cause : HasCauses disk disk_now dest.disk dest_now.disk r

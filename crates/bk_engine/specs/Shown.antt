@@ -23,11 +23,13 @@ coded_file = code_by (List ℕ × ℕ) (coded× coded_bytes coded_ℕ) (λ f. (f
 
 abbrev pub coded_meta : Coded Meta
 coded_meta =
-    code_by (ℕ × (ℕ × (ℕ × (List ℕ × List MetaFile)))) (coded× coded_ℕ (coded× coded_ℕ (coded× coded_ℕ (coded× coded_bytes (coded_list coded_file)))))
+    code_by (ℕ × (ℕ × (ℕ × (List ℕ × List MetaFile)))) (coded× coded_ℕ
+    (coded× coded_ℕ (coded× coded_ℕ (coded× coded_bytes (coded_list coded_file)))))
     (λ m. (m.id, (m.timestamp, (m.sequence, (m.metadata, m.files)))))
     (λ p. record { id = p.0; timestamp = p.1.0; sequence = p.1.1.0; metadata = p.1.1.1.0; files = p.1.1.1.1 }) (λ _. refl)
 
 abbrev pub coded_shown : Coded Shown
 coded_shown =
-    code_by (Seen × (List Meta × (ℕ × Option Halt))) (coded× coded_seen (coded× (coded_list coded_meta) (coded× coded_ℕ (coded_option coded_halt))))
+    code_by (Seen × (List Meta × (ℕ × Option Halt))) (coded× coded_seen
+    (coded× (coded_list coded_meta) (coded× coded_ℕ (coded_option coded_halt))))
     (λ s. (s.disk, (s.metas, (s.given, s.halt)))) (λ p. record { disk = p.0; metas = p.1.0; given = p.1.1.0; halt = p.1.1.1 }) (λ _. refl)

@@ -41,11 +41,11 @@ same_text text = (bytes_eq-Decides text text).1 refl
 equal_texts : (left right : List ℕ) → bytes_eq left right ≡ true → left ≡ right
 equal_texts left right = (bytes_eq-Decides left right).0
 
-by_difference : (is : Bool) → (is ≡ true → ⊥) → is ≡ false
+pub by_difference : (is : Bool) → (is ≡ true → ⊥) → is ≡ false
 by_difference true no_one = absurd (no_one refl)
 by_difference false no_one = refl
 
-other_texts : (left right : List ℕ) → left ≢ right → bytes_eq left right ≡ false
+pub other_texts : (left right : List ℕ) → left ≢ right → bytes_eq left right ≡ false
 other_texts left right differ = by_difference (bytes_eq left right) (λ same. differ (equal_texts left right same))
 
 -- ---- the digits of a text
@@ -311,7 +311,7 @@ path_spells id path file h = named_by id path file (begins (private_folder id) p
 
 -- ---- such a path is one of a disk
 
-first_digit : (digits : List ℕ) → 0 < length digits → list_all is_ascii_digit digits ≡ true → is_ascii_alphanumeric (slice_index digits 0) ≡ true
+pub first_digit : (digits : List ℕ) → 0 < length digits → list_all is_ascii_digit digits ≡ true → is_ascii_alphanumeric (slice_index digits 0) ≡ true
 first_digit [] some h = absurd (omega arith)
 first_digit (digit ∷ digits) some h =
     let cut = and_parts (is_ascii_digit digit) (list_all is_ascii_digit digits) h in
@@ -319,7 +319,7 @@ first_digit (digit ∷ digits) some h =
       digit_is_alphanumeric : (byte : ℕ) → is_ascii_digit byte ≡ true → is_ascii_alphanumeric byte ≡ true
       digit_is_alphanumeric byte h = grind (arith, nat_tests)
 
-identifier_is_component : (id : ℕ) → id < 2 ^ 32 → is_component (decimal id) ≡ true
+pub identifier_is_component : (id : ℕ) → id < 2 ^ 32 → is_component (decimal id) ≡ true
 identifier_is_component id small =
     let digits = digits_decimal digit_texts id (omega arith) in
     let some = decimal_nonempty id (omega arith) in
@@ -327,7 +327,7 @@ identifier_is_component id small =
     (list_all-weaker is_ascii_digit is_component_byte digit_is_component_byte (decimal id) digits)
     (not_dots (decimal id) (first_digit (decimal id) some digits))
 
-private_is_path : is_path (codes "private") ≡ true
+pub private_is_path : is_path (codes "private") ≡ true
 unfolding is_path is_component is_component_byte is_dots
 private_is_path = refl
 

@@ -77,7 +77,7 @@ first_two : (a b : MetaFile) (files : List MetaFile) → Ascends (a ∷ b ∷ fi
 first_two a b files ascending = ascending 0 (omega arith)
 
 -- the first path comes before each that follows
-reaches : (a : MetaFile) (files more : List MetaFile) (file : MetaFile) → Ascends (a ∷ (files ++ file ∷ more)) → comes_before a.path file.path ≡ true
+pub reaches : (a : MetaFile) (files more : List MetaFile) (file : MetaFile) → Ascends (a ∷ (files ++ file ∷ more)) → comes_before a.path file.path ≡ true
 reaches a [] more file ascending = first_two a file more ascending
 reaches a (b ∷ files) more file ascending =
     before_trans a.path b.path file.path (first_two a b (files ++ file ∷ more) ascending)
@@ -159,7 +159,7 @@ hit (Some other) number numbers h =
       | inr rest ↦ inr rest
     ]
 
-hits : (first : Option ℕ) (number : ℕ) (numbers : List ℕ) → first ≡ Some number → has number (cons_option first numbers) ≡ true
+pub hits : (first : Option ℕ) (number : ℕ) (numbers : List ℕ) → first ≡ Some number → has number (cons_option first numbers) ≡ true
 hits None number numbers h = absurd (cc)
 hits (Some other) number numbers h =
     let equal : other ≡ number = cc in
@@ -233,7 +233,7 @@ numbers_push id files index file within at =
     ap (shared_numbers id) (take_more files index file within ∙ ap (λ (f : MetaFile). take index files ++ f ∷ []) at)
     ∙ filter_map-append (number_of id) (take index files) (file ∷ [])
 
-cut_files : (files : List MetaFile) (index : ℕ) (file : MetaFile) → index < length files → get_or files index file ≡ file → files ≡ take index files ++ file ∷ drop (index + 1) files
+pub cut_files : (files : List MetaFile) (index : ℕ) (file : MetaFile) → index < length files → get_or files index file ≡ file → files ≡ take index files ++ file ∷ drop (index + 1) files
 cut_files files index file within at =
     sym (take-append-drop index files) ∙ ap (λ (rest : List MetaFile). take index files ++ rest) (drop_more files index file within ∙ ap (λ (f : MetaFile). f ∷ drop (index + 1) files) at)
 

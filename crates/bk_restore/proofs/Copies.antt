@@ -1,9 +1,9 @@
 -- What a copy into the file in hand leaves, and a view that is read whole.
-use Rattle.std.specs.Prelude.{◌≡◌, ℕ, List, [], length, take, drop, Option, IfSome, Result, Ok, Err}
+use Rattle.std.specs.Prelude.{◌≡◌, ℕ, List, [], length, take, drop, Option, IfSome, Err}
 use Rattle.std.proofs.Common.{refl, ap, subst, ◌∙◌, arith}
 use Rattle.std.proofs.lemmas.List.{take_all}
 use Rattle.lsm_bytes.specs.Checksum.{crc32c}
-use Rattle.lsm_disk.specs.State.{Seen, new_file, longer}
+use Rattle.lsm_disk.specs.State.{new_file, longer}
 use Rattle.lsm_disk.specs.Viewed.{Viewed}
 use Rattle.lsm_disk.specs.Dest.{DestSeen}
 use Rattle.lsm_disk.specs.Building.{IsUnfinished}

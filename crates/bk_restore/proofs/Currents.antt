@@ -12,8 +12,8 @@ use Rattle.bk_meta.specs.BackupFiles.{file_at}
 use Rattle.bk_meta.specs.Metas.{is_current}
 use Rattle.bk_restore.specs.Wrong.{is_current_file, currents}
 use Rattle.bk_restore.specs.Restored.{AreMetaFiles}
-use Rattle.bk_restore.proofs.Names.{cut_files}
 use Rattle.bk_restore.proofs.Going.{take_next}
+use Rattle.bk_meta.proofs.SetLemmas.{cut_files}
 
 no_current : (id : ℕ) (file : MetaFile) (which : BackupFile) → file_at id file.path ≡ Some which → is_current (Some which) ≡ false → currents id (file ∷ []) ≡ []
 no_current id file which named is = ap (λ (b : Bool). cond b (file ∷ []) []) (ap is_current named ∙ is)

@@ -8,7 +8,7 @@ use Rattle.lsm_names.specs.declared.file_names.FileName.TheVariants.{Current}
 use Rattle.lsm_disk.specs.State.{State, Story, state_of}
 use Rattle.lsm_disk.specs.Images.{Tree}
 use Rattle.lsm_disk.specs.Goes.{Went}
-use Rattle.lsm_disk.specs.Dest.{just_begun}
+use Rattle.lsm_disk.specs.Dest.{Begun, just_begun}
 use Rattle.lsm_disk.specs.Building.{Part, with_current, IsWithin, HasNoCurrent, HasNoneOrAll, IsBuilding, IsUnfinished, Finishes}
 use Rattle.lsm_disk.specs.declared.dest.DestError.{DestError}
 use Rattle.lsm_disk.specs.declared.dest.DestError.TheVariants as dest
@@ -24,6 +24,7 @@ use Rattle.bk_restore.specs.Wrong.{others, currents}
 use Rattle.bk_restore.specs.Hands.{Builds}
 use Rattle.bk_restore.specs.Restored.{AreRestored, AreMetaFiles, begun_with, MayHaveEnded, EndsBy, MayHaveRestored, LeavesBy, BeginsBy}
 use Rattle.bk_restore.proofs.Going.{restored_both}
+use Rattle.bk_restore.proofs.Growing.{building_unfinished}
 
 module _ (id : ℕ) (told : Option Story) (files : List MetaFile) (start : State) (folder : List ℕ) (parts : List Part) where
   unended : (e : RestoreError) (s : State) → IsUnfinished start folder s → EndsBy id told files start folder parts (Err e) s
@@ -37,34 +38,38 @@ module _ (id : ℕ) (told : Option Story) (files : List MetaFile) (start : State
   unended (Damaged name kept found) s is = is
   unended NoMemory s is = is
 
-  unfinished : (whole : List Part) (why : DestError) (s : State) → Finishes {T = Unit {0}} start folder whole (Err why) s → EndsBy id told files start folder parts (Err (dest_answer [] why)) s
-  unfinished whole dest.Fault s left = tt
-  unfinished whole (dest.Halted first) s left = left
-  unfinished whole dest.Exists s left = left
-  unfinished whole (dest.Changed call path) s left = absurd left
-  unfinished whole dest.NoMemory s left = left
-
   abbrev pub Ended : Story → Option Story → Result (Unit {0}) RestoreError → Type 0
   Ended story now r = Went story now (IsWithin folder (length start.files)) (MayHaveEnded id told files start folder parts) (EndsBy id told files start folder parts r)
-
-  abbrev pub Finished : List ℕ → Story → Option Story → Result (Unit {0}) DestError → Type 0
-  Finished text story now r = Went story now (IsWithin folder (length start.files)) (HasNoneOrAll start folder (with_current text parts)) (Finishes start folder (with_current text parts) r)
 
   -- it stopped before the end
   pub stopped : {story : Story} {now : Option Story} (e : RestoreError) → Builds start folder story now (IsUnfinished start folder) → Ended story now (Err e)
   stopped e w = went_weaker (IsUnfinished start folder) (EndsBy id told files start folder parts (Err e)) (unended e)
       (went_wider (IsWithin folder (length start.files)) (IsWithin folder (length start.files)) (HasNoCurrent start folder) (MayHaveEnded id told files start folder parts) (λ c h. h) (λ s t h. inl h) w)
 
+module _ (id : ℕ) (told : Option Story) (files : List MetaFile) (start : State) (begun : Begun) (parts : List Part) where
+  abbrev folder : List ℕ
+  folder = begun.folder
+
+  abbrev pub Finished : List ℕ → Story → Option Story → Result (Unit {0}) DestError → Type 0
+  Finished text story now r = Went story now (IsWithin folder (length start.files)) (HasNoneOrAll start folder (with_current text parts)) (Finishes start begun parts text r)
+
+  unfinished : (text : List ℕ) (why : DestError) (s : State) → Finishes {T = Unit {0}} start begun parts text (Err why) s → EndsBy id told files start folder parts (Err (dest_answer [] why)) s
+  unfinished text dest.Fault s left = tt
+  unfinished text (dest.Halted first) s left = building_unfinished start begun parts s left
+  unfinished text dest.Exists s left = building_unfinished start begun parts s left
+  unfinished text (dest.Changed call path) s left = absurd left
+  unfinished text dest.NoMemory s left = building_unfinished start begun parts s left
+
   module _ (text : List ℕ) (restored : AreRestored id told files (with_current text [])) where
     shown : (s : State) (t : Tree) → HasNoneOrAll start folder (with_current text parts) s t → MayHaveEnded id told files start folder parts s t
     shown s t h = ⊎_elim (λ lacks. inl lacks) (λ whole. inr (record { name = Current; bytes = text }, restored, whole)) h
 
-    pub finish_refused : {story : Story} {now : Option Story} (why : DestError) → Finished text story now (Err why) → Ended story now (Err (dest_answer [] why))
-    finish_refused why w = went_weaker (Finishes {T = Unit {0}} start folder (with_current text parts) (Err why)) (EndsBy id told files start folder parts (Err (dest_answer [] why))) (unfinished (with_current text parts) why)
+    pub finish_refused : {story : Story} {now : Option Story} (why : DestError) → Finished text story now (Err why) → Ended id told files start folder parts story now (Err (dest_answer [] why))
+    finish_refused why w = went_weaker (Finishes {T = Unit {0}} start begun parts text (Err why)) (EndsBy id told files start folder parts (Err (dest_answer [] why))) (unfinished text why)
         (went_wider (IsWithin folder (length start.files)) (IsWithin folder (length start.files)) (HasNoneOrAll start folder (with_current text parts)) (MayHaveEnded id told files start folder parts) (λ c h. h) shown w)
 
-    pub finish_done : {story : Story} {now : Option Story} → Finished text story now (Ok tt) → Ended story now (Ok tt)
-    finish_done w = went_weaker (Finishes {T = Unit {0}} start folder (with_current text parts) (Ok tt)) (EndsBy id told files start folder parts (Ok tt)) (λ s built. (record { name = Current; bytes = text }, restored, built))
+    pub finish_done : {story : Story} {now : Option Story} → Finished text story now (Ok tt) → Ended id told files start folder parts story now (Ok tt)
+    finish_done w = went_weaker (Finishes {T = Unit {0}} start begun parts text (Ok tt)) (EndsBy id told files start folder parts (Ok tt)) (λ s built. (record { name = Current; bytes = text }, restored, built))
         (went_wider (IsWithin folder (length start.files)) (IsWithin folder (length start.files)) (HasNoneOrAll start folder (with_current text parts)) (MayHaveEnded id told files start folder parts) (λ c h. h) shown w)
 
 -- ---- the whole restore

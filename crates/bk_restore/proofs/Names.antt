@@ -1,13 +1,11 @@
 -- Each file of a meta gets a name of its own in a store's folder.
-use Rattle.std.specs.Prelude.{◌≡◌, ◌≢◌, ℕ, ◌+◌, ◌<◌, ◌==◌, ◌&&◌, ◌||◌, not, Bool, true, false, cond, List, [], ◌∷◌, ◌++◌, length, take, drop, All, Option, Some, None}
-use Rattle.std.proofs.Common.{Ordering, Less, Equal, Greater, refl, sym, ap, subst, ◌∙◌, arith, get_or}
+use Rattle.std.specs.Prelude.{◌≡◌, ◌≢◌, ℕ, ◌==◌, ◌&&◌, ◌||◌, not, Bool, true, false, cond, List, [], ◌∷◌, ◌++◌, All, Option, Some, None}
+use Rattle.std.proofs.Common.{Ordering, Less, Equal, Greater, refl, sym, ap, subst, ◌∙◌}
 use Rattle.std.specs.Cmp.Lexicographic.{slice_cmp}
 use Rattle.std.specs.List.{list_any, cons_option}
 use Rattle.std.specs.Ordering.{nat_cmp, is_lt, ordering_reverse}
-use Rattle.std.proofs.lemmas.Bool.Decides.{nat_tests}
 use Rattle.std.proofs.lemmas.Bool.{and_parts}
 use Rattle.std.proofs.lemmas.Cmp.{nat_list_cmp_total}
-use Rattle.std.proofs.lemmas.List.{take-append-drop, drop_more}
 use Rattle.std.proofs.lemmas.List.Elements.{All-nil, All-cons}
 use Rattle.lsm_names.specs.declared.file_names.FileName.{FileName}
 use Rattle.lsm_names.specs.declared.file_names.FileName.TheVariants.{Log, Table, Manifest, Temp, Current}
@@ -20,7 +18,7 @@ use Rattle.bk_meta.specs.declared.metas.MetaFile.{MetaFile}
 use Rattle.bk_meta.specs.BackupFiles.{file_at, path_of, IsBackupFile}
 use Rattle.bk_meta.specs.Metas.{comes_before, is_current, shared_number, shared_numbers, are_different, Ascends}
 use Rattle.bk_meta.proofs.FileLemmas.{path_spells}
-use Rattle.bk_meta.proofs.SetLemmas.{before_trans, ascends_tail}
+use Rattle.bk_meta.proofs.SetLemmas.{ascends_tail, reaches, hits}
 use Rattle.bk_tree.specs.Holds.{store_name}
 use Rattle.bk_restore.specs.Wrong.{is_current_file, others}
 use Rattle.bk_restore.specs.Restored.{IsRestored, AreRestored}
@@ -35,11 +33,6 @@ not_before_itself Greater same is = cc
 before_differs : (a b : List ℕ) → comes_before a b ≡ true → a ≢ b
 before_differs a b before same =
     not_before_itself (slice_cmp nat_cmp b b) (nat_list_cmp_total.antisymm b b) (subst (λ (p : List ℕ). comes_before p b ≡ true) same before)
-
-reaches : (a : MetaFile) (files more : List MetaFile) (file : MetaFile) → Ascends (a ∷ (files ++ file ∷ more)) → comes_before a.path file.path ≡ true
-reaches a [] more file ascending = ascending 0 (omega arith)
-reaches a (b ∷ files) more file ascending =
-    before_trans a.path b.path file.path (ascending 0 (omega arith)) (reaches b files more file (ascends_tail a (b ∷ (files ++ file ∷ more)) ascending))
 
 -- ---- shared numbers
 
@@ -58,15 +51,8 @@ has_more : (first : Option ℕ) (number : ℕ) (numbers : List ℕ) → has numb
 has_more None number numbers is = is
 has_more (Some other) number numbers is = later (other == number) (has number numbers) is
 
-has_first : (first : Option ℕ) (number : ℕ) (numbers : List ℕ) → first ≡ Some number → has number (cons_option first numbers) ≡ true
-has_first None number numbers is = cc
-has_first (Some other) number numbers is =
-    let equal : other ≡ number = cc in
-    let same : other == number ≡ true = grind (arith, nat_tests) in
-    ap (λ (b : Bool). b || has number numbers) same
-
 number_there : (id number : ℕ) (files more : List MetaFile) (file : MetaFile) → shared_number (file_at id file.path) ≡ Some number → has number (shared_numbers id (files ++ file ∷ more)) ≡ true
-number_there id number [] more file is = has_first (shared_number (file_at id file.path)) number (shared_numbers id more) is
+number_there id number [] more file is = hits (shared_number (file_at id file.path)) number (shared_numbers id more) is
 number_there id number (f ∷ files) more file is = has_more (shared_number (file_at id f.path)) number (shared_numbers id (files ++ file ∷ more)) (number_there id number files more file is)
 
 different_rest : (first : Option ℕ) (numbers : List ℕ) → are_different (cons_option first numbers) ≡ true → are_different numbers ≡ true
@@ -129,7 +115,3 @@ module _ (id : ℕ) (told : Option Story) (file : MetaFile) (which : BackupFile)
   names_before (f ∷ files) parts ascending different restored =
       by_test f files (not (is_current_file id f)) parts ascending different
       (λ rest is. names_before files rest (ascends_tail f (files ++ file ∷ more) ascending) (different_rest (shared_number (file_at id f.path)) (shared_numbers id (files ++ file ∷ more)) different) is) restored
-
-pub cut_files : (files : List MetaFile) (index : ℕ) (file : MetaFile) → index < length files → get_or files index file ≡ file → files ≡ take index files ++ file ∷ drop (index + 1) files
-cut_files files index file within at =
-    sym (take-append-drop index files) ∙ ap (λ (rest : List MetaFile). take index files ++ rest) (drop_more files index file within ∙ ap (λ (f : MetaFile). f ∷ drop (index + 1) files) at)

@@ -23,7 +23,8 @@ CountedBy fault refused dest_fault dest_refused NoMemory = Unit {0}
 pub record HasCauses {T : Type 0} (disk disk_now dest dest_now : Seen) (result : Result T RestoreError) : Type 0 where
   pub disk_later : AreLater disk disk_now
   pub dest_later : AreLater dest dest_now
-  pub counted : IfErr result (CountedBy (Rose disk.faults disk_now.faults) (Rose disk.refusals disk_now.refusals) (Rose dest.faults dest_now.faults) (Rose dest.refusals dest_now.refusals))
+  pub counted : IfErr result (CountedBy (Rose disk.faults disk_now.faults) (Rose disk.refusals disk_now.refusals)
+      (Rose dest.faults dest_now.faults) (Rose dest.refusals dest_now.refusals))
 
 -- a view's counts, as those of a disk
 abbrev pub counts_of : Viewed → Seen

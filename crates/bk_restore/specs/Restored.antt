@@ -53,7 +53,8 @@ with_parts more begun = record { folder = begun.folder; names = begun.names ++ n
 
 -- the file, unless it is `CURRENT`, gets a new name in the begun folder
 abbrev pub IsNext : ℕ → MetaFile → Begun → Type 0
-IsNext id file begun = (which : BackupFile) → file_at id file.path ≡ Some which → is_current (Some which) ≡ false → IsNewName begun (store_name which)
+IsNext id file begun = (which : BackupFile) → file_at id file.path ≡ Some which → is_current (Some which) ≡ false
+    → IsNewName begun (store_name which)
 
 -- The files are some that a meta may name: with one `CURRENT`, and no shared number twice.
 pub record AreMetaFiles (id : ℕ) (files : List MetaFile) : Type 0 where
@@ -71,13 +72,15 @@ MayHaveEnded id told files start folder parts s t =
 
 -- Ok leaves the whole folder for good. A refusal leaves no `CURRENT`; but of a fault only the images on the way say what it left.
 abbrev pub EndsBy : ℕ → Option Story → List MetaFile → State → List ℕ → List Part → Result (Unit {0}) RestoreError → State → Type 0
-EndsBy id told files start folder parts (Ok value) s = (part : Part) × AreRestored id told files (part ∷ []) × IsBuilt folder (part ∷ parts) s
+EndsBy id told files start folder parts (Ok value) s = (part : Part) × AreRestored id told files (part ∷ [])
+    × IsBuilt folder (part ∷ parts) s
 EndsBy id told files start folder parts (Err DestFault) s = Unit {0}
 EndsBy id told files start folder parts (Err e) s = IsUnfinished start folder s
 
 -- the same of a restore from its begin on
 abbrev pub MayHaveRestored : Meta → Option Story → State → List ℕ → State → Tree → Type 0
-MayHaveRestored meta told start folder s t = LacksCurrent start folder t.names ⊎ ((whole : List Part) × IsFolderOf meta told whole × IsWhole folder whole t)
+MayHaveRestored meta told start folder s t = LacksCurrent start folder t.names
+    ⊎ ((whole : List Part) × IsFolderOf meta told whole × IsWhole folder whole t)
 
 abbrev pub LeavesBy : Meta → Option Story → State → List ℕ → Result ℕ RestoreError → State → Type 0
 LeavesBy meta told start folder (Ok sequence) s = (whole : List Part) × IsFolderOf meta told whole × IsBuilt folder whole s
@@ -108,5 +111,6 @@ IsBegunBy NoMemory = Unit {0}
 -- names the folder.
 abbrev pub TakesBy : {T : Type 0} → List ℕ → Option Story → Result T RestoreError → Type 0
 TakesBy folder told (Ok value) = IfSome told (λ story. stands (names_now (state_of story)) folder ≡ None)
-TakesBy folder told (Err (DestinationExists dir)) = (dir ≡ folder) × IfSome told (λ story. is_some (stands (names_now (state_of story)) folder) ≡ true)
+TakesBy folder told (Err (DestinationExists dir)) = (dir ≡ folder)
+    × IfSome told (λ story. is_some (stands (names_now (state_of story)) folder) ≡ true)
 TakesBy folder told (Err e) = Unit {0}

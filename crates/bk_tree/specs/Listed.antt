@@ -23,7 +23,8 @@ number_behind path = digits_value 10 (drop 5 path)
 
 -- the identifier whose meta stands at this path, which is its one spelling
 abbrev pub identifier_at : Tree → List ℕ → Option ℕ
-identifier_at t path = if is_listed t (number_behind path) && bytes_eq path (meta_path (number_behind path)) then Some (number_behind path) else None
+identifier_at t path = if is_listed t (number_behind path) && bytes_eq path (meta_path (number_behind path))
+    then Some (number_behind path) else None
 
 -- the identifiers of the backups that the tree lists, in the order of the bytes of their paths
 unfoldable pub listed : Tree → List ℕ
@@ -40,7 +41,8 @@ NoFolderIn names folder = (path rest : List ℕ) → inside folder path ≡ Some
 -- What stands in `private` are folders, and in those stands none.
 pub record IsPlainPrivate (names : Names) : Type 0 where
   pub no_file : (path rest : List ℕ) → inside private_root path ≡ Some rest → cut_last rest ≡ None → NoFileAt names path
-  pub no_folder : (path rest front : List ℕ) → inside private_root path ≡ Some rest → cut_last rest ≡ Some front → map.get names path ≢ Some Folder_node
+  pub no_folder : (path rest front : List ℕ) → inside private_root path ≡ Some rest → cut_last rest ≡ Some front
+      → map.get names path ≢ Some Folder_node
 
 -- None of the three names is a file's; in the folders of the metas and of the shared tables stand files alone; and `private`
 -- has folders of files.

@@ -34,6 +34,7 @@ use Rattle.ldb_script.specs.Printed.{Backup, listed_line, line_of_info, line_of_
 use Rattle.ldb_script.specs.Plain.{Plain, next_backup, backed_up}
 use Rattle.ldb_script.specs.Vaults.{Vault, IsMetaOf, AreMetasOf, IsHeld, AreHeld, IsListedByNone, HoldsBackups, Keeps, IsUnopened, Backs}
 use Rattle.ldb_script.specs.Backing.{ShutBy, IsReady, ArePlain, IsCreated, UncreatedBy}
+use Rattle.lsm_names.proofs.SharedNameLemmas.{some_is_not_none}
 
 -- the backups over which an engine is opened
 abbrev pub vault_at : EngineShown → Vault
@@ -225,9 +226,6 @@ is_created start e e' plain now left info sequence listed views keeps is are mad
   backs = created start e plain keeps now e' left info sequence listed views is are (subst (λ (n : ℕ). Made e e' n now listed views info) is made) given halt low;
 }
 
-never_halted : {A : Type 0} (o : Option A) (x : A) → o ≡ None → o ≡ Some x → ⊥
-never_halted o x none some = cc
-
 rose_above : (before later : ℕ) → Rose before later → 0 < later
 rose_above before later rose = omega (arith, rose)
 
@@ -238,7 +236,7 @@ uncreated start e e' plain before later (engine.Changed call path) keeps h left 
 uncreated start e e' plain before later engine.SourceFault keeps h left = rose_above before later h
 uncreated start e e' plain before later engine.IdsFull keeps h left = (sym keeps.given ∙ h.1, ap vault_at left)
 uncreated start e e' plain before later engine.NoMemory keeps h left = tt
-uncreated start e e' plain before later (engine.Halted first) keeps h left = never_halted e.halt first keeps.going h
+uncreated start e e' plain before later (engine.Halted first) keeps h left = some_is_not_none e.halt first keeps.going h
 uncreated start e e' plain before later engine.DestFault keeps h left = absurd h
 uncreated start e e' plain before later (engine.Found path) keeps h left = absurd h
 uncreated start e e' plain before later (engine.StrangeFolder path) keeps h left = absurd h

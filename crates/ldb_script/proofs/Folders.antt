@@ -29,7 +29,7 @@ use Rattle.lsm_disk.proofs.Named.{created_now, now_at, name_now, now_appended, n
 use Rattle.lsm_disk.proofs.Now.{names_after, folder_made_stands, stands_past_folder, stands_past_file}
 use Rattle.lsm_disk.proofs.Kept.{kept_spared}
 use Rattle.lsm_disk.proofs.Runs.{goes_state, kept_goes}
-use Rattle.lsm_dest.proofs.Places.{inside_folder, folder_itself}
+use Rattle.lsm_dest.proofs.Places.{inside_folder, folder_itself, rests_apart}
 use Rattle.lsm_publish.specs.Publishing.{Not_known, HasOld, HasOldOrNew, IsMove, Writes, Switches, IsReady, IsPublished}
 use Rattle.ldb_script.specs.Stored.{log_path, manifest_path, current_path, temporary_path, first_manifest, first_current, whole_file}
 use Rattle.ldb_script.specs.Filling.{IsFreeFolder, AddsFile, Fills, HasOnly, HasManifest, HasTemporary, HasCurrent}
@@ -75,11 +75,6 @@ apart_in (c ∷ folder) a b ne is = apart_in folder a b ne (tail is) where
 -- and none is its folder
 pub folder_apart : (folder : List ℕ) (c : ℕ) (rest : List ℕ) → folder ≢ folder ++ c ∷ rest
 folder_apart folder c rest is = let long : length (folder ++ c ∷ rest) ≡ length folder + length (c ∷ rest) = length-append folder (c ∷ rest) in absurd (omega (arith, ap length is, long))
-
-pub joined_apart : (folder a b : List ℕ) → a ≢ b → folder ++ 47 ∷ a ≢ folder ++ 47 ∷ b
-joined_apart folder a b ne = apart_in folder (47 ∷ a) (47 ∷ b) (λ is. ne (tail is)) where
-  tail : 47 ∷ a ≡ 47 ∷ b → a ≡ b
-  tail e = cc
 
 under_in : (folder a b : List ℕ) → under (folder ++ a) (folder ++ b) ≡ under a b
 under_in [] a b = refl
@@ -398,7 +393,7 @@ has_manifest folder old new e adds = record {
   id = adds.id;
   manifest = adds.now;
   only = λ name others.
-      let other : folder ++ 47 ∷ name ≢ manifest_path folder = joined_apart folder name (codes "MANIFEST-000001") (All-head (λ (own : List ℕ). name ≢ own) (codes "MANIFEST-000001") [] others) in
+      let other : folder ++ 47 ∷ name ≢ manifest_path folder = rests_apart folder name (codes "MANIFEST-000001") (All-head (λ (own : List ℕ). name ≢ own) (codes "MANIFEST-000001") [] others) in
       get_in (names_now new) folder 47 name ∙ adds.names (folder ++ 47 ∷ name) other ∙ e.free name;
 }
 
@@ -463,7 +458,7 @@ module _ (folder : List ℕ) (story : Story) {told : Option Story} (h : HasManif
       only = λ name others.
           let manifest = All-head (λ (own : List ℕ). name ≢ own) (codes "MANIFEST-000001") (codes "000001.dbtmp" ∷ []) others in
           let temporary = All-head (λ (own : List ℕ). name ≢ own) (codes "000001.dbtmp") [] (All-tail (λ (own : List ℕ). name ≢ own) (codes "MANIFEST-000001") (codes "000001.dbtmp" ∷ []) others) in
-          stays_written (folder ++ 47 ∷ name) (joined_apart folder name (codes "000001.dbtmp") temporary) ∙ h.only name (one_of name (codes "MANIFEST-000001") manifest);
+          stays_written (folder ++ 47 ∷ name) (rests_apart folder name (codes "000001.dbtmp") temporary) ∙ h.only name (one_of name (codes "MANIFEST-000001") manifest);
     };
     elsewhere = elsewhere_goes folder (Writes (temporary_path folder) (length (state_of story).files))
         (λ c is. writing_within (temporary_path folder) (length (state_of story).files) folder c (inside_folder folder (codes "000001.dbtmp")) is) w.goes;
@@ -514,7 +509,7 @@ module _ (folder : List ℕ) (story : Story) {told : Option Story} (h : HasTempo
       let manifest = All-head (λ (own : List ℕ). name ≢ own) (codes "MANIFEST-000001") (codes "CURRENT" ∷ []) others in
       let current = All-head (λ (own : List ℕ). name ≢ own) (codes "CURRENT") [] (All-tail (λ (own : List ℕ). name ≢ own) (codes "MANIFEST-000001") (codes "CURRENT" ∷ []) others) in
       ⊎_elim (λ same. ap (λ (n : List ℕ). map.get (names_now (state_of w.story)) (folder ++ 47 ∷ n)) same ∙ temporary_gone)
-      (λ ne. stays_switched (folder ++ 47 ∷ name) (joined_apart folder name (codes "000001.dbtmp") ne) (joined_apart folder name (codes "CURRENT") current)
+      (λ ne. stays_switched (folder ++ 47 ∷ name) (rests_apart folder name (codes "000001.dbtmp") ne) (rests_apart folder name (codes "CURRENT") current)
       ∙ h.only name (neither name (codes "MANIFEST-000001") (codes "000001.dbtmp") manifest ne))
       (path_cases name (codes "000001.dbtmp"))
 

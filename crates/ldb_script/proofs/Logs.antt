@@ -27,10 +27,7 @@ use Rattle.ldb_script.specs.Opening.{made_durable}
 use Rattle.ldb_script.specs.Folders.{FoldersStand}
 use Rattle.ldb_script.proofs.Besides.{files_go, files_synced}
 use Rattle.ldb_script.proofs.Standings.{folders_of, folders_go, folders_synced}
-
-pub sequence_push : (start : ℕ) (batches : List (List Op)) (batch : List Op) → sequence_after start (batches ++ batch ∷ []) ≡ sequence_after start batches + length batch
-sequence_push start [] batch = refl
-sequence_push start (first ∷ batches) batch = sequence_push (start + length first) batches batch
+use Rattle.lsm_wal.proofs.Following.{sequence_more}
 
 replayed_push : (m : Contents) (batches : List (List Op)) (batch : List Op) → replayed m (batches ++ batch ∷ []) ≡ fold applied (replayed m batches) batch
 replayed_push m [] batch = refl
@@ -114,7 +111,7 @@ module _ (start : Option Story) (old new : Shown) (outcome : Outcome) (was : Sta
     contents = contents ∙ ap (λ (m : Contents). fold applied m batch) was.contents;
     sequence = sequence ∙ ap (λ (n : ℕ). n + length batch) was.sequence;
     replays = ap (λ (m : Contents). fold applied m batch) was.replays ∙ sym (replayed_push map.empty outcome.accepted batch);
-    counted = ap (λ (n : ℕ). n + length batch) was.counted ∙ sym (sequence_push 0 outcome.accepted batch);
+    counted = ap (λ (n : ℕ). n + length batch) was.counted ∙ sym (sequence_more 0 outcome.accepted batch);
     batches = ap (λ (n : ℕ). n + 1) was.batches ∙ sym (length-append outcome.accepted (batch ∷ []));
     len = len ∙ (λ i. was.len i + length (record_text (was.len i % 32768) (text_of (behind_is i)))) ∙ sym (log_push outcome.accepted batch);
     log = log;

@@ -13,9 +13,9 @@ use Rattle.lsm_disk.proofs.Kept.{kept_at}
 use Rattle.lsm_disk.proofs.Runs.{kept_goes}
 use Rattle.lsm_wal.specs.Standing.{IsWal}
 use Rattle.ldb_script.specs.Stored.{log_path, manifest_path, current_path, first_manifest, first_current, whole_file, IsBeside}
-use Rattle.lsm_dest.proofs.Places.{inside_folder}
+use Rattle.lsm_dest.proofs.Places.{inside_folder, rests_apart}
 use Rattle.ldb_script.specs.Filling.{Fills, HasCurrent, HasStore}
-use Rattle.ldb_script.proofs.Folders.{making_spares, making_spares_name, making_within, manifest_not_log, current_not_log, joined_apart, neither, folder_apart, stands_same, name_goes, elsewhere_goes}
+use Rattle.ldb_script.proofs.Folders.{making_spares, making_spares_name, making_within, manifest_not_log, current_not_log, neither, folder_apart, stands_same, name_goes, elsewhere_goes}
 use Rattle.lsm_frame.proofs.Going.{rose_later}
 
 -- ---- the new log
@@ -48,7 +48,7 @@ has_store folder story told P h w = record {
       let rest = All-tail A (codes "MANIFEST-000001") (codes "CURRENT" ∷ codes "000002.log" ∷ []) others in
       let current = All-head A (codes "CURRENT") (codes "000002.log" ∷ []) rest in
       let log = All-head A (codes "000002.log") [] (All-tail A (codes "CURRENT") (codes "000002.log" ∷ []) rest) in
-      name_goes (folder ++ 47 ∷ name) (Making (log_path folder)) (λ c is. making_spares_name (log_path folder) (folder ++ 47 ∷ name) c (joined_apart folder name (codes "000002.log") log) is) w.goes
+      name_goes (folder ++ 47 ∷ name) (Making (log_path folder)) (λ c is. making_spares_name (log_path folder) (folder ++ 47 ∷ name) c (rests_apart folder name (codes "000002.log") log) is) w.goes
       ∙ h.only name (neither name (codes "MANIFEST-000001") (codes "CURRENT") manifest current);
   files = record {
     manifest = beside_new (state_of w.story) (log_path folder) w.now (manifest_path folder) first_manifest h.manifest_id manifest_some

@@ -18,10 +18,7 @@ use Rattle.ldb_script.specs.Printed.{Backup}
 use Rattle.ldb_script.specs.Plain.{Plain, Restored, all_durable}
 use Rattle.ldb_script.specs.Folders.{IsRestored, FoldersStand, RestoredRead}
 use Rattle.ldb_script.specs.Vaults.{Vault, AreMetasOf, AreHeld, EngineKeeps, Backs, IsHeldIn, BackupsHeld}
-
-named : (name : List ℕ) → is_folder_name name ≡ true → 1 ≤ length name
-unfolding is_folder_name
-named name is = grind (arith, nat_tests)
+use Rattle.lsm_names.proofs.FolderLemmas.{folder_has_bytes}
 
 -- each restored folder reads as its backup did
 pub restored_read : (start told : Option Story) (log : List ℕ) (plain : Plain) → FoldersStand start told log plain → RestoredRead told plain
@@ -29,7 +26,7 @@ restored_read start told log plain f = record {
   story = f.story;
   tells = f.tells;
   each = All-weaker (IsRestored (state_of f.story) log) (λ (folder : Restored). (t : Tree) → IsImage (state_of f.story) t → reading (place_of folder.name t) ≡ Ok folder.shown)
-      (λ folder r t image. built_reads (state_of f.story) folder.name r.parts t (named folder.name r.named) r.files r.built image folder.shown.contents folder.shown.sequence r.shows) plain.restored f.has.restored;
+      (λ folder r t image. built_reads (state_of f.story) folder.name r.parts t (folder_has_bytes folder.name r.named) r.files r.built image folder.shown.contents folder.shown.sequence r.shows) plain.restored f.has.restored;
 }
 
 -- that each batch is made durable changes neither

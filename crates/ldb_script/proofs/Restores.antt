@@ -41,6 +41,7 @@ use Rattle.ldb_script.specs.Stored.{Shown, Stands, Logs, FilesBeside, IsBeside, 
 use Rattle.ldb_script.specs.Folders.{IsElsewhere, IsRestored, HasFolders, FoldersStand}
 use Rattle.ldb_script.specs.Restoring.{MayBeTaken}
 use Rattle.ldb_script.proofs.Folders.{name_goes, stands_same, parent_log}
+use Rattle.bk_meta.proofs.FileLemmas.{other_texts}
 
 -- ---- two folders of the root
 
@@ -56,12 +57,6 @@ module _ (dir other : List ℕ) (dir_fits : is_folder_name dir ≡ true) (other_
   -- nor is what is in the folder
   pub outside : (path : List ℕ) → is_in dir path ≡ true → is_in other path ≡ false
   outside path inside = out_of dir other path away back inside
-
-differs : (a b : List ℕ) → a ≢ b → bytes_eq a b ≡ false
-differs a b ne = by_test (bytes_eq a b) refl where
-  by_test : (t : Bool) → bytes_eq a b ≡ t → t ≡ false
-  by_test true is = absurd (ne (equal_texts a b is))
-  by_test false is = refl
 
 -- ---- while another folder is built
 
@@ -223,11 +218,11 @@ module _ (first s : State) (log : List ℕ) (plain : Plain) (has : HasFolders fi
     among_none : (folders : List Restored) → All (IsRestored s log) folders → standing_among folders name (plain.start.taken name) ≡ Free
     among_none [] each = ap (λ (t : Bool). cond t Taken Free) (taken name ∙ ap is_some was_free)
     among_none (folder ∷ folders) each =
-        ap (λ (t : Bool). cond t (Reads folder.shown) (standing_among folders name (plain.start.taken name))) (differs name folder.name (other_name s log name folder (All-head (IsRestored s log) folder folders each) free))
+        ap (λ (t : Bool). cond t (Reads folder.shown) (standing_among folders name (plain.start.taken name))) (other_texts name folder.name (other_name s log name folder (All-head (IsRestored s log) folder folders each) free))
         ∙ among_none folders (All-tail (IsRestored s log) folder folders each)
 
     pub is_free : standing_told plain name ≡ Free
-    is_free = ap (λ (t : Bool). cond t (Reads (shown_now plain)) (standing_among plain.restored name (plain.start.taken name))) (differs name plain.start.home not_home) ∙ among_none plain.restored has.restored
+    is_free = ap (λ (t : Bool). cond t (Reads (shown_now plain)) (standing_among plain.restored name (plain.start.taken name))) (other_texts name plain.start.home not_home) ∙ among_none plain.restored has.restored
 
   -- something
   module _ (full : is_some (stands (names_now s) name) ≡ true) where

@@ -8,20 +8,8 @@ use Rattle.lsm_rows.specs.declared.operations.Op.{Op}
 use Rattle.lsm_rows.specs.BatchText.{batch_text, text_len}
 use Rattle.lsm_rows.specs.Limits.{InLimits}
 use Rattle.lsm_frame.specs.Frames.{piece, kind_of, cut, filling, start, record_text}
-use Rattle.lsm_frame.proofs.Written.{length-piece}
+use Rattle.lsm_frame.proofs.Written.{length-piece, cut_goes, cut_stays, cut_zero}
 use Prim.Native.Nat.{zero, suc}
-
-cut_zero : (begun : Bool) (offset : ℕ) (rest : List ℕ) → cut zero begun offset rest ≡ piece (kind_of begun true) rest
-unfolding cut
-cut_zero begun offset rest = refl
-
-cut_stays : (more : ℕ) (begun : Bool) (offset : ℕ) (rest : List ℕ) → length rest ≤ 32761 - offset → cut (suc more) begun offset rest ≡ piece (kind_of begun true) rest
-unfolding cut
-cut_stays more begun offset rest fits = grind (arith, nat_tests)
-
-cut_goes : (more : ℕ) (begun : Bool) (offset : ℕ) (rest : List ℕ) → 32761 - offset < length rest → cut (suc more) begun offset rest ≡ piece (kind_of begun false) (take (32761 - offset) rest) ++ cut more true 0 (drop (32761 - offset) rest)
-unfolding cut
-cut_goes more begun offset rest over = grind (arith, nat_tests)
 
 -- a record from a block's start on
 cut_small : (more : ℕ) (begun : Bool) (rest : List ℕ) → length (cut more begun 0 rest) ≤ 7 + 8 * length rest

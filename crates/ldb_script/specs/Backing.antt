@@ -55,7 +55,8 @@ pub record ArePlain (plain : Plain) (listed : List FileName) (views : List Viewe
   pub logged : All IsLogged (in_sequence 1 accepted)
 
 -- The next backup is there, of what the store holds, at this time; and these times are left.
-pub record IsCreated (start : Option Story) (new : Vault) (plain : Plain) (now : ℕ) (left : Option (List ℕ)) (info : BackupInfo) : Type 0 where
+pub record IsCreated (start : Option Story) (new : Vault) (plain : Plain) (now : ℕ) (left : Option (List ℕ))
+    (info : BackupInfo) : Type 0 where
   pub room : plain.given ≢ 4294967295
   pub id : info.id ≡ plain.given + 1
   pub sequence : info.sequence ≡ plain.sequence

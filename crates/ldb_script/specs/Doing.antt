@@ -106,7 +106,8 @@ Breaks origin old new outcome command ClockFault = IsUnclocked origin old new ou
 Breaks origin old new outcome command (InTheWay why) = IsBarred origin new outcome command why
 Breaks origin old new outcome command (Changed call path) = Rose old.store.disk.refusals new.store.disk.refusals × (origin.store ≡ None)
 Breaks origin old new outcome command (BackupChanged call path) = Rose old.backups.disk.refusals new.backups.disk.refusals
-Breaks origin old new outcome command (RestoreChanged call path) = IsOfRestore command × (Rose old.store.disk.refusals new.store.disk.refusals ⊎ Rose old.backups.disk.refusals new.backups.disk.refusals)
+Breaks origin old new outcome command (RestoreChanged call path) =
+    IsOfRestore command × (Rose old.store.disk.refusals new.store.disk.refusals ⊎ Rose old.backups.disk.refusals new.backups.disk.refusals)
 Breaks origin old new outcome command NoMemory = Unit {0}
 Breaks origin old new outcome command Finished = ⊥
 Breaks origin old new outcome command (BadLine number) = ⊥
@@ -132,7 +133,8 @@ broken_end store_errors.NoMemory = NoMemory
 -- a batch of these operations, or what the limits refuse of the first one that they refuse
 abbrev pub BuildsOr : List Op → Result (List Op) BatchRefusal → Type 0
 BuildsOr ops (Ok batch) = (batch ≡ ops) × (first_refusal [] ops ≡ None)
-BuildsOr ops (Err (refusals.BatchTooLarge what kept limit)) = first_refusal [] ops ≡ Some (record { what = what; kept = kept; limit = limit })
+BuildsOr ops (Err (refusals.BatchTooLarge what kept limit)) =
+    first_refusal [] ops ≡ Some (record { what = what; kept = kept; limit = limit })
 BuildsOr ops (Err refusals.NoMemory) = Unit {0}
 
 -- the sink took a text, or a first part of it where it failed
@@ -168,10 +170,14 @@ ServedOr origin before after old new outcome command (Err WriteFault) = IsUnsaid
 ServedOr origin before after old new outcome command (Err DiskFault) = IsUnserved origin before after old new outcome command DiskFault
 ServedOr origin before after old new outcome command (Err BackupFault) = IsUnserved origin before after old new outcome command BackupFault
 ServedOr origin before after old new outcome command (Err ClockFault) = IsUnserved origin before after old new outcome command ClockFault
-ServedOr origin before after old new outcome command (Err (InTheWay why)) = IsUnserved origin before after old new outcome command (InTheWay why)
-ServedOr origin before after old new outcome command (Err (Changed call path)) = IsUnserved origin before after old new outcome command (Changed call path)
-ServedOr origin before after old new outcome command (Err (BackupChanged call path)) = IsUnserved origin before after old new outcome command (BackupChanged call path)
-ServedOr origin before after old new outcome command (Err (RestoreChanged call path)) = IsUnserved origin before after old new outcome command (RestoreChanged call path)
+ServedOr origin before after old new outcome command (Err (InTheWay why)) =
+    IsUnserved origin before after old new outcome command (InTheWay why)
+ServedOr origin before after old new outcome command (Err (Changed call path)) =
+    IsUnserved origin before after old new outcome command (Changed call path)
+ServedOr origin before after old new outcome command (Err (BackupChanged call path)) =
+    IsUnserved origin before after old new outcome command (BackupChanged call path)
+ServedOr origin before after old new outcome command (Err (RestoreChanged call path)) =
+    IsUnserved origin before after old new outcome command (RestoreChanged call path)
 ServedOr origin before after old new outcome command (Err NoMemory) = Unit {0}
 ServedOr origin before after old new outcome command (Err Finished) = ⊥
 ServedOr origin before after old new outcome command (Err (BadLine number)) = ⊥
@@ -179,7 +185,8 @@ ServedOr origin before after old new outcome command (Err ReadFault) = ⊥
 ServedOr origin before after old new outcome command (Err Found) = ⊥
 
 -- The line is done: it is in the grammar, the sink took what it prints, and the store and the actors stand behind it.
-pub record IsDone (origin : Origin) (before after : Stream) (tools : Tools) (actors : List (List ℕ)) (outcome : Outcome) (line : List ℕ) : Type 0 where
+pub record IsDone (origin : Origin) (before after : Stream) (tools : Tools) (actors : List (List ℕ)) (outcome : Outcome)
+    (line : List ℕ) : Type 0 where
   pub next : Outcome
   pub does : Does outcome.after line next
   pub took : Appends before.bytes after.bytes next.text
@@ -195,7 +202,8 @@ pub record IsCutOff (origin : Origin) (before after : Stream) (tools : Tools) (o
   pub stands : AreAt origin tools (both outcome next)
 
 -- an actor's command ended the run before it was answered
-pub record IsStopped (origin : Origin) (before after : Stream) (old new : Tools) (outcome : Outcome) (line : List ℕ) (ended : Ended) : Type 0 where
+pub record IsStopped (origin : Origin) (before after : Stream) (old new : Tools) (outcome : Outcome) (line : List ℕ)
+    (ended : Ended) : Type 0 where
   pub actor : List ℕ
   pub command : Command
   pub asks : line_at outcome.after.actors line ≡ Some (Ask actor command)
@@ -204,15 +212,19 @@ pub record IsStopped (origin : Origin) (before after : Stream) (old new : Tools)
 
 -- what a line ends a run with
 abbrev pub Stops : Origin → Stream → Stream → Tools → Tools → Outcome → List ℕ → ℕ → Ended → Type 0
-Stops origin before after old new outcome line number (BadLine n) = (n ≡ number) × (line_at outcome.after.actors line ≡ None) × (after ≡ before) × (new ≡ old)
+Stops origin before after old new outcome line number (BadLine n) =
+    (n ≡ number) × (line_at outcome.after.actors line ≡ None) × (after ≡ before) × (new ≡ old)
 Stops origin before after old new outcome line number WriteFault = IsCutOff origin before after new outcome line
 Stops origin before after old new outcome line number DiskFault = IsStopped origin before after old new outcome line DiskFault
 Stops origin before after old new outcome line number BackupFault = IsStopped origin before after old new outcome line BackupFault
 Stops origin before after old new outcome line number ClockFault = IsStopped origin before after old new outcome line ClockFault
 Stops origin before after old new outcome line number (InTheWay why) = IsStopped origin before after old new outcome line (InTheWay why)
-Stops origin before after old new outcome line number (Changed call path) = IsStopped origin before after old new outcome line (Changed call path)
-Stops origin before after old new outcome line number (BackupChanged call path) = IsStopped origin before after old new outcome line (BackupChanged call path)
-Stops origin before after old new outcome line number (RestoreChanged call path) = IsStopped origin before after old new outcome line (RestoreChanged call path)
+Stops origin before after old new outcome line number (Changed call path) =
+    IsStopped origin before after old new outcome line (Changed call path)
+Stops origin before after old new outcome line number (BackupChanged call path) =
+    IsStopped origin before after old new outcome line (BackupChanged call path)
+Stops origin before after old new outcome line number (RestoreChanged call path) =
+    IsStopped origin before after old new outcome line (RestoreChanged call path)
 Stops origin before after old new outcome line number NoMemory = Unit {0}
 Stops origin before after old new outcome line number Finished = ⊥
 Stops origin before after old new outcome line number ReadFault = ⊥
@@ -230,7 +242,8 @@ LastOr start old new outcome ended = StoreBreaks start old new ended
 -- ---- the run
 
 -- These lines were read and done, and the next one begins behind them.
-pub record Underway (origin : Origin) (met : Met) (tools : Tools) (actors : List (List ℕ)) (done : List (List ℕ)) (outcome : Outcome) : Type 0 where
+pub record Underway (origin : Origin) (met : Met) (tools : Tools) (actors : List (List ℕ)) (done : List (List ℕ))
+    (outcome : Outcome) : Type 0 where
   pub reached : Reached origin.start met done [] outcome
   pub written : Appends met.sink_before.bytes met.sink_after.bytes outcome.text
   pub stands : AreAt origin tools outcome
@@ -361,7 +374,8 @@ Closed origin met tools Found = ⊥
 
 -- one more line is done, or the run ends
 abbrev pub TurnedOr : Origin → Met → Tools → List (List ℕ) → List (List ℕ) → Result Unit Ended → Type 0
-TurnedOr origin met tools actors before (Ok done) = (line : List ℕ) × (outcome : Outcome) × Underway origin met tools actors (before ++ line ∷ []) outcome
+TurnedOr origin met tools actors before (Ok done) = (line : List ℕ) × (outcome : Outcome)
+    × Underway origin met tools actors (before ++ line ∷ []) outcome
 TurnedOr origin met tools actors before (Err ended) = Ran origin met tools ended
 
 -- how a run ends that opened no store
@@ -389,7 +403,8 @@ EndsWith folder before after DiskFault status = (status ≡ 5) × Spoke before a
 EndsWith folder before after BackupFault status = (status ≡ 5) × Spoke before after (with_newline (codes "fault backup"))
 EndsWith folder before after ClockFault status = (status ≡ 7) × Spoke before after (with_newline (codes "clock fault"))
 EndsWith folder before after (InTheWay why) status = ((status ≡ 6) × SpokeWay before after why) ⊎ (status ≡ 8)
-EndsWith folder before after Found status = ((status ≡ 6) × Spoke before after (with_newline (codes "refused Found " ++ folder))) ⊎ (status ≡ 8)
+EndsWith folder before after Found status = ((status ≡ 6) × Spoke before after
+    (with_newline (codes "refused Found " ++ folder))) ⊎ (status ≡ 8)
 EndsWith folder before after (Changed call path) status = (status ≡ 6) ⊎ (status ≡ 8)
 EndsWith folder before after (BackupChanged call path) status = (status ≡ 6) ⊎ (status ≡ 8)
 EndsWith folder before after (RestoreChanged call path) status = (status ≡ 6) ⊎ (status ≡ 8)

@@ -31,7 +31,8 @@ pub record HasViews (folder path : List ℕ) (len : ℕ) (s : State) : Type 0 wh
 -- A call was refused by a fault, by want of memory, or by a disk that told no state with P.
 abbrev pub IsRefused : (State → Type 0) → Seen → Seen → StoreError → Type 0
 IsRefused P old new store_errors.DiskFault = Rose old.faults new.faults
-IsRefused P old new (store_errors.Changed call path) = Rose old.refusals new.refusals × ((story : Story) → old.told ≡ Some story → ¬ P (state_of story))
+IsRefused P old new (store_errors.Changed call path) = Rose old.refusals new.refusals
+    × ((story : Story) → old.told ≡ Some story → ¬ P (state_of story))
 IsRefused P old new store_errors.NoMemory = Unit {0}
 
 -- These are the names of the store's files, and where the disk told, the views' texts are theirs: those of a store of the accepted

@@ -42,7 +42,8 @@ IsFull folder seen = (story : Story) → seen.told ≡ Some story → IsSome (st
 -- A new store over an empty log, beside a new manifest and `CURRENT`: the folder's name was free. It stands where each run begins
 -- whose folder this is, and which says of the disk that it tells only where it does, and which names it has.
 pub record IsOpened (folder : List ℕ) (before : Seen) (shown : Shown) : Type 0 where
-  pub stands : (start : Start) → start.home ≡ folder → (IsTrue start.tells → TellsTaken before.told start.taken) → Stands before.told shown (told (empty start) [])
+  pub stands : (start : Start) → start.home ≡ folder → (IsTrue start.tells → TellsTaken before.told start.taken)
+      → Stands before.told shown (told (empty start) [])
   pub log : shown.log ≡ log_path folder
   pub free : IsFree folder before
 
@@ -74,7 +75,8 @@ opening_calls folder = halt_at call.Kind folder ∷ filling_calls folder
 abbrev pub IsUnopened : List ℕ → Seen → Seen → OpenError → Type 0
 IsUnopened folder before after open_errors.DiskFault = Rose before.faults after.faults
 IsUnopened folder before after open_errors.Found = IsFull folder before × (after.told ≡ before.told)
-IsUnopened folder before after (open_errors.Changed call path) = IsAmong (halt_at call path) (opening_calls folder) × Rose before.refusals after.refusals × (before.told ≡ None)
+IsUnopened folder before after (open_errors.Changed call path) =
+    IsAmong (halt_at call path) (opening_calls folder) × Rose before.refusals after.refusals × (before.told ≡ None)
 IsUnopened folder before after open_errors.NoMemory = IsFree folder before
 
 -- where the disk refuses a call of an opened store
@@ -85,7 +87,8 @@ IsBroken start old new store_errors.NoMemory = Unit {0}
 
 -- What a write leaves of a store that stands where a run has come: the batch is accepted, or the disk refused it.
 abbrev pub Writes : Option Story → Shown → Shown → Outcome → List Op → Bool → Result ℕ StoreError → Type 0
-Writes start old new outcome batch durable (Ok last) = (last ≡ outcome.after.sequence + length batch) × Stands start new (both outcome (written outcome.after durable batch None))
+Writes start old new outcome batch durable (Ok last) = (last ≡ outcome.after.sequence + length batch)
+    × Stands start new (both outcome (written outcome.after durable batch None))
 Writes start old new outcome batch durable (Err error) = IsBroken start old new error
 
 -- the same run, with each batch durable
@@ -149,16 +152,19 @@ open_error call path NoMemory = open_errors.NoMemory
 
 -- where the disk told a state with P, it tells one later that R relates to it
 abbrev pub Leads : (State → Type 0) → (State → State → Type 0) → Option Story → Option Story → Type 0
-Leads P R old new = (story : Story) → old ≡ Some story → P (state_of story) → (later : Story) × (new ≡ Some later) × R (state_of story) (state_of later)
+Leads P R old new = (story : Story) → old ≡ Some story → P (state_of story)
+    → (later : Story) × (new ≡ Some later) × R (state_of story) (state_of later)
 
 -- One of these calls was refused, by a fault, by want of memory, or by a disk that told no state with P.
 abbrev pub IsHindered : List Halt → (State → Type 0) → Seen → Seen → OpenError → Type 0
 IsHindered calls P old new open_errors.DiskFault = Rose old.faults new.faults
 IsHindered calls P old new open_errors.Found = ⊥
-IsHindered calls P old new (open_errors.Changed call path) = IsAmong (halt_at call path) calls × Rose old.refusals new.refusals × ((story : Story) → old.told ≡ Some story → ¬ P (state_of story))
+IsHindered calls P old new (open_errors.Changed call path) =
+    IsAmong (halt_at call path) calls × Rose old.refusals new.refusals × ((story : Story) → old.told ≡ Some story → ¬ P (state_of story))
 IsHindered calls P old new open_errors.NoMemory = Unit {0}
 
 -- the folder and its files were made, or why not
 abbrev pub MakesOr : {T : Type 0} → List ℕ → Seen → Seen → Result T OpenError → Type 0
-MakesOr folder before after (Ok log) = (story : Story) → before.told ≡ Some story → (later : Story) × (after.told ≡ Some later) × Fills folder (HasStore folder) (state_of story) (state_of later)
+MakesOr folder before after (Ok log) = (story : Story) → before.told ≡ Some story
+    → (later : Story) × (after.told ≡ Some later) × Fills folder (HasStore folder) (state_of story) (state_of later)
 MakesOr folder before after (Err why) = IsUnopened folder before after why

@@ -45,7 +45,18 @@ pub record Plain : Type 0 where
 
 -- nothing was written, and nobody named
 abbrev pub empty : Start → Plain
-empty start = record { contents = map.empty; sequence = 0; batches = 0; durable = 0; actors = []; start = start; times = start.times; backups = []; given = 0; restored = [] }
+empty start = record {
+  contents = map.empty;
+  sequence = 0;
+  batches = 0;
+  durable = 0;
+  actors = [];
+  start = start;
+  times = start.times;
+  backups = [];
+  given = 0;
+  restored = [];
+}
 
 -- ---- the grammar as far as it looks back
 
@@ -106,7 +117,11 @@ all_durable plain = record plain { durable = plain.batches }
 
 -- a batch is accepted whole, or refused by a limit
 abbrev pub written : Plain → Bool → List Op → Option Refused → Outcome
-written plain durable batch None = record { text = sequence_line (plain.sequence + length batch); accepted = batch ∷ []; after = with_batch plain durable batch }
+written plain durable batch None = record {
+  text = sequence_line (plain.sequence + length batch);
+  accepted = batch ∷ [];
+  after = with_batch plain durable batch;
+}
 written plain durable batch (Some refused) = told plain (too_large_line refused)
 
 -- ---- backups and folders
@@ -130,7 +145,8 @@ standing_among (folder ∷ folders) name taken = if bytes_eq name folder.name th
 
 -- the store's own folder reads as the store does
 abbrev pub standing_told : Plain → List ℕ → Standing
-standing_told plain name = if bytes_eq name plain.start.home then Reads (shown_now plain) else standing_among plain.restored name (plain.start.taken name)
+standing_told plain name = if bytes_eq name plain.start.home then Reads (shown_now plain)
+    else standing_among plain.restored name (plain.start.taken name)
 
 unfoldable pub standing_of : Plain → List ℕ → Standing
 standing_of plain name = if plain.start.tells then standing_told plain name else Untold
@@ -147,7 +163,11 @@ abbrev pub next_backup : Plain → ℕ → Backup
 next_backup plain now = record { id = plain.given + 1; timestamp = now; metadata = []; shown = shown_now plain }
 
 abbrev pub backed_up : Plain → ℕ → Option (List ℕ) → Outcome
-backed_up plain now left = told (record plain { times = left; backups = plain.backups ++ next_backup plain now ∷ []; given = plain.given + 1 }) (backup_line (plain.given + 1) plain.sequence)
+backed_up plain now left = told (record plain {
+  times = left;
+  backups = plain.backups ++ next_backup plain now ∷ [];
+  given = plain.given + 1;
+}) (backup_line (plain.given + 1) plain.sequence)
 
 -- no identifier is left behind 4,294,967,295
 abbrev pub created : Plain → ℕ → Option (List ℕ) → Outcome
@@ -166,7 +186,8 @@ backup_of [] id = None
 backup_of (backup ∷ backups) id = if backup.id == id then Some backup else backup_of backups id
 
 abbrev pub restored : Plain → Backup → List ℕ → Outcome
-restored plain backup name = told (record plain { restored = record { name = name; shown = backup.shown } ∷ plain.restored }) (restored_line backup.id name)
+restored plain backup name = told (record plain { restored = record { name = name; shown = backup.shown } ∷ plain.restored })
+    (restored_line backup.id name)
 
 -- a backup is restored where the name is free
 abbrev pub RestoresAs : Plain → Backup → List ℕ → Standing → Outcome → Type 0
@@ -213,4 +234,5 @@ both first rest = record { text = first.text ++ rest.text; accepted = first.acce
 -- The output of lines, one by one: each is in the grammar where the run reaches it.
 unfoldable pub Output : Plain → List (List ℕ) → Outcome → Type 0
 Output plain [] outcome = outcome ≡ told plain []
-Output plain (bytes ∷ more) outcome = (first : Outcome) × Does plain bytes first × (rest : Outcome) × Output first.after more rest × (outcome ≡ both first rest)
+Output plain (bytes ∷ more) outcome = (first : Outcome) × Does plain bytes first × (rest : Outcome)
+    × Output first.after more rest × (outcome ≡ both first rest)

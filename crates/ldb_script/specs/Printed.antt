@@ -52,7 +52,8 @@ what_name Bytes = codes "Bytes"
 
 -- a batch that would pass a limit: what is too large, its size, and the limit
 unfoldable pub too_large_line : Refused → List ℕ
-too_large_line refused = codes "refused BatchTooLarge " ++ (what_name refused.what ++ (codes " " ++ (decimal refused.kept ++ (codes " " ++ with_newline (decimal refused.limit)))))
+too_large_line refused = codes "refused BatchTooLarge " ++ (what_name refused.what
+    ++ (codes " " ++ (decimal refused.kept ++ (codes " " ++ with_newline (decimal refused.limit)))))
 
 -- ---- backups and folders
 

@@ -51,11 +51,14 @@ pub record IsRestoredAs (start : Option Story) (new : Shown) (outcome : Outcome)
 -- and of the backups' disk before, and what is seen after. A fault, or a disk that was found changed, ends the run.
 abbrev pub RestoresOr : Option Story → Shown → Shown → Seen → Seen → Outcome → ℕ → List ℕ → Result ℕ EngineError → Type 0
 RestoresOr start old new vault vault' outcome id name (Ok sequence) = IsRestoredAs start new outcome id name sequence
-RestoresOr start old new vault vault' outcome id name (Err (engine.NoSuchBackup n)) = (n ≡ id) × (backup_of outcome.after.backups id ≡ None) × Stands start new outcome
-RestoresOr start old new vault vault' outcome id name (Err (engine.DestinationExists dir)) = (dir ≡ name) × IsRefusedName start new outcome id name
+RestoresOr start old new vault vault' outcome id name (Err (engine.NoSuchBackup n)) =
+    (n ≡ id) × (backup_of outcome.after.backups id ≡ None) × Stands start new outcome
+RestoresOr start old new vault vault' outcome id name (Err (engine.DestinationExists dir)) =
+    (dir ≡ name) × IsRefusedName start new outcome id name
 RestoresOr start old new vault vault' outcome id name (Err engine.DiskFault) = Rose vault.faults vault'.faults
 RestoresOr start old new vault vault' outcome id name (Err engine.DestFault) = Rose old.disk.faults new.disk.faults
-RestoresOr start old new vault vault' outcome id name (Err (engine.Changed call path)) = Rose vault.refusals vault'.refusals ⊎ Rose old.disk.refusals new.disk.refusals
+RestoresOr start old new vault vault' outcome id name (Err (engine.Changed call path)) =
+    Rose vault.refusals vault'.refusals ⊎ Rose old.disk.refusals new.disk.refusals
 RestoresOr start old new vault vault' outcome id name (Err engine.NoMemory) = Unit {0}
 RestoresOr start old new vault vault' outcome id name (Err (engine.Missing path)) = IsUntold start new outcome id name
 RestoresOr start old new vault vault' outcome id name (Err (engine.WrongSize path kept found)) = IsUntold start new outcome id name

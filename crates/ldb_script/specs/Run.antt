@@ -175,7 +175,8 @@ pub record StoppedAt (folder : List ℕ) (m : Met) : Type 0 where
   pub reached : Reached (start_of folder m) m done part outcome
   pub bad : IsBad outcome.after.actors done part m.source_after.bytes
   pub says : Says m outcome.text (bad_line (length done + 1))
-  pub log : (story : Story) → m.disk_before.told ≡ Some story → Logs m.disk_after.told (log_path folder) outcome.accepted outcome.after.durable
+  pub log : (story : Story) → m.disk_before.told ≡ Some story
+      → Logs m.disk_after.told (log_path folder) outcome.accepted outcome.after.durable
   pub files : (story : Story) → m.disk_before.told ≡ Some story → KeepsManifestAndCurrent m.disk_after.told folder
   pub folders : IsTrue (start_of folder m).tells → RestoredRead m.disk_after.told outcome.after
   pub backups : IsTrue (start_of folder m).tells → BackupsHeld m.backups_before.told m.backups_after.told outcome.after
@@ -191,7 +192,8 @@ pub record ReadFailed (folder : List ℕ) (m : Met) : Type 0 where
   pub reached : Reached (start_of folder m) m done part outcome
   pub inside : IsInside part
   pub says : Says m outcome.text (with_newline (codes "read fault"))
-  pub log : (story : Story) → m.disk_before.told ≡ Some story → Logs m.disk_after.told (log_path folder) outcome.accepted outcome.after.durable
+  pub log : (story : Story) → m.disk_before.told ≡ Some story
+      → Logs m.disk_after.told (log_path folder) outcome.accepted outcome.after.durable
   pub files : (story : Story) → m.disk_before.told ≡ Some story → KeepsManifestAndCurrent m.disk_after.told folder
   pub folders : IsTrue (start_of folder m).tells → RestoredRead m.disk_after.told outcome.after
   pub backups : IsTrue (start_of folder m).tells → BackupsHeld m.backups_before.told m.backups_after.told outcome.after
@@ -212,7 +214,8 @@ pub record WriteFailed (folder : List ℕ) (m : Met) : Type 0 where
   pub rest : List ℕ
   pub parts : next.text ≡ front ++ rest
   pub took : Appends m.sink_before.bytes m.sink_after.bytes (outcome.text ++ front)
-  pub log : (story : Story) → m.disk_before.told ≡ Some story → Logs m.disk_after.told (log_path folder) (outcome.accepted ++ next.accepted) next.after.durable
+  pub log : (story : Story) → m.disk_before.told ≡ Some story
+      → Logs m.disk_after.told (log_path folder) (outcome.accepted ++ next.accepted) next.after.durable
   pub files : (story : Story) → m.disk_before.told ≡ Some story → KeepsManifestAndCurrent m.disk_after.told folder
   pub folders : IsTrue (start_of folder m).tells → RestoredRead m.disk_after.told next.after
   pub backups : IsTrue (start_of folder m).tells → BackupsHeld m.backups_before.told m.backups_after.told next.after
@@ -270,7 +273,8 @@ pub record IsBlocked (folder : List ℕ) (m : Met) : Type 0 where
   pub asked : IsAsked (start_of folder m) m outcome command
   pub of_backups : IsOfBackups command
   pub says : SaysWay m outcome.text why
-  pub log : (story : Story) → m.disk_before.told ≡ Some story → Logs m.disk_after.told (log_path folder) outcome.accepted outcome.after.durable
+  pub log : (story : Story) → m.disk_before.told ≡ Some story
+      → Logs m.disk_after.told (log_path folder) outcome.accepted outcome.after.durable
   pub files : (story : Story) → m.disk_before.told ≡ Some story → KeepsManifestAndCurrent m.disk_after.told folder
 
 -- A restore was asked for, behind lines that are done, and one of the two disks refused a call of it.
@@ -282,8 +286,11 @@ pub record IsRefusedRestore (folder : List ℕ) (m : Met) : Type 0 where
 -- Refused: the folder's name is taken, or something is in the way of the backups, or a disk refused a name that it should have.
 -- The store's disk, where it tells, does that in a restore alone.
 pub record RefusedBy (folder : List ℕ) (m : Met) : Type 0 where
-  pub cause : IsFound folder m ⊎ (IsBlocked folder m ⊎ (Rose m.disk_before.refusals m.disk_after.refusals ⊎ Rose m.backups_before.refusals m.backups_after.refusals))
-  pub told : (story : Story) → m.disk_before.told ≡ Some story → (IsFound folder m × IsTaken folder m.disk_before) ⊎ (IsBlocked folder m ⊎ (Rose m.backups_before.refusals m.backups_after.refusals ⊎ IsRefusedRestore folder m))
+  pub cause : IsFound folder m ⊎ (IsBlocked folder m ⊎ (Rose m.disk_before.refusals m.disk_after.refusals
+      ⊎ Rose m.backups_before.refusals m.backups_after.refusals))
+  pub told : (story : Story) → m.disk_before.told ≡ Some story
+      → (IsFound folder m × IsTaken folder m.disk_before) ⊎ (IsBlocked folder m
+      ⊎ (Rose m.backups_before.refusals m.backups_after.refusals ⊎ IsRefusedRestore folder m))
 
 -- The clock failed at a `backup create`: the lines before it are done, and the log holds the batches that they had accepted.
 pub record ClockFailed (folder : List ℕ) (m : Met) : Type 0 where
@@ -291,7 +298,8 @@ pub record ClockFailed (folder : List ℕ) (m : Met) : Type 0 where
   pub outcome : Outcome
   pub asked : IsAsked (start_of folder m) m outcome CreateBackup
   pub says : Says m outcome.text (with_newline (codes "clock fault"))
-  pub log : (story : Story) → m.disk_before.told ≡ Some story → Logs m.disk_after.told (log_path folder) outcome.accepted outcome.after.durable
+  pub log : (story : Story) → m.disk_before.told ≡ Some story
+      → Logs m.disk_after.told (log_path folder) outcome.accepted outcome.after.durable
   pub files : (story : Story) → m.disk_before.told ≡ Some story → KeepsManifestAndCurrent m.disk_after.told folder
   pub folders : IsTrue (start_of folder m).tells → RestoredRead m.disk_after.told outcome.after
   pub backups : IsTrue (start_of folder m).tells → BackupsHeld m.backups_before.told m.backups_after.told outcome.after

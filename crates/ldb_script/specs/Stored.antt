@@ -29,7 +29,8 @@ pub record Shown : Type 0 where
 
 abbrev pub coded_shown : Coded Shown
 coded_shown =
-    code_by (Seen × (List ℕ × (ℕ × (Contents × ℕ)))) (coded× coded_seen (coded× coded_bytes (coded× coded_ℕ (coded× coded_contents coded_ℕ))))
+    code_by (Seen × (List ℕ × (ℕ × (Contents × ℕ)))) (coded× coded_seen
+    (coded× coded_bytes (coded× coded_ℕ (coded× coded_contents coded_ℕ))))
     (λ s. (s.disk, (s.log, (s.len, (s.contents, s.sequence)))))
     (λ p. record { disk = p.0; log = p.1.0; len = p.1.1.0; contents = p.1.1.1.0; sequence = p.1.1.1.1 }) (λ _. refl)
 

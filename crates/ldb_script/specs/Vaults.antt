@@ -23,7 +23,8 @@ pub record Vault : Type 0 where
   pub engine : Option EngineShown
 
 abbrev pub coded_vault : Coded Vault
-coded_vault = code_by (Seen × Option EngineShown) (coded× coded_seen (coded_option coded_shown)) (λ v. (v.disk, v.engine)) (λ p. record { disk = p.0; engine = p.1 }) (λ _. refl)
+coded_vault = code_by (Seen × Option EngineShown) (coded× coded_seen (coded_option coded_shown)) (λ v. (v.disk, v.engine))
+    (λ p. record { disk = p.0; engine = p.1 }) (λ _. refl)
 
 -- nothing is seen of a disk that isn't there
 abbrev pub unseen : Seen
@@ -65,7 +66,8 @@ AreHeld s (meta ∷ metas) (backup ∷ backups) = IsHeld s meta backup × AreHel
 
 -- an identifier of no backup that no crash listed at the start is listed after none now
 abbrev pub IsListedByNone : State → State → List Backup → Type 0
-IsListedByNone start now backups = (id : ℕ) → id < 2 ^ 32 → All (λ backup. backup.id ≢ id) backups → IsKeptName start (meta_path id) None → IsKeptName now (meta_path id) None
+IsListedByNone start now backups = (id : ℕ) → id < 2 ^ 32 → All (λ backup. backup.id ≢ id) backups
+    → IsKeptName start (meta_path id) None → IsKeptName now (meta_path id) None
 
 -- the disk told and tells, and it holds each backup, and lists no other
 pub record HoldsBackups (start told : Option Story) (metas : List Meta) (backups : List Backup) : Type 0 where

@@ -137,9 +137,6 @@ pub varint_longer : (n : ℕ) → 128 ≤ n → length (varint n) ≡ 1 + length
 varint_longer n high =
     ap (λ k. length (varint k)) (omega arith) ∙ sym (ap (length {A = ℕ}) (number_joined (n % 128 + 128) (n / 128) (omega arith) (omega arith) (omega arith))) ∙ omega arith
 
-pub varint_short : (n : ℕ) → n < 128 → length (varint n) ≡ 1
-varint_short n low = one_byte n low
-
 -- a number of 64 bits takes ten bytes at most
 pub varint_small : (n : ℕ) → n < 2 ^ 64 → length (varint n) ≤ 10
 varint_small n fits = IsVarint-length_64 (varint n) n fits (IsVarint-varint n)

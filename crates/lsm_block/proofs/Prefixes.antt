@@ -17,7 +17,7 @@ none_common : (b : List ℕ) → common [] b ≡ 0
 unfolding common
 none_common b = refl
 
-same_number : (x y : ℕ) → (x == y) ≡ true → x ≡ y
+pub same_number : (x y : ℕ) → (x == y) ≡ true → x ≡ y
 same_number x y e = grind (arith, nat_tests)
 
 -- what a fact of two lists says of longer ones, by whether their first bytes are the same

@@ -66,19 +66,19 @@ is_less Less is = refl
 is_less Equal is = cc
 is_less Greater is = cc
 
-less_is : (o : Ordering) → o ≡ Less → is_lt o ≡ true
+pub less_is : (o : Ordering) → o ≡ Less → is_lt o ≡ true
 less_is o is = ap is_lt is
 
 -- both tests fall
 pub before_falls : (key : List ℕ) → Falls (is_before key)
 before_falls key d e less is = less_is (internal_cmp d.key key) (internal_total.trans d.key e.key key less (is_less (internal_cmp e.key key) is))
 
-users : (o p : Ordering) → ordering_then o p ≡ Less → (o ≡ Less) ⊎ (o ≡ Equal)
+pub users : (o p : Ordering) → ordering_then o p ≡ Less → (o ≡ Less) ⊎ (o ≡ Equal)
 users Less p is = inl refl
 users Equal p is = inr refl
 users Greater p is = cc
 
-internal_users : (a b : List ℕ) → internal_cmp a b ≡ Less → (key_cmp (user_key a) (user_key b) ≡ Less) ⊎ (key_cmp (user_key a) (user_key b) ≡ Equal)
+pub internal_users : (a b : List ℕ) → internal_cmp a b ≡ Less → (key_cmp (user_key a) (user_key b) ≡ Less) ⊎ (key_cmp (user_key a) (user_key b) ≡ Equal)
 unfolding internal_cmp
 internal_users a b less = users (key_cmp (user_key a) (user_key b)) (nat_cmp (trailer b) (trailer a)) less
 

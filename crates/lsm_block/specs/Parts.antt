@@ -38,7 +38,8 @@ next_text es e = entry_text (length es) (last_key es) e
 
 -- the entry that stands at a place, behind those before it, and the place behind it; or that none does
 unfoldable pub IsNext : List ℕ → ℕ → List Entry → Option (Entry × ℕ) → Type 0
-IsNext bytes at es (Some (e, next)) = AreEntries (es ++ e ∷ []) × (next ≤ length bytes) × (drop at bytes ≡ next_text es e ++ drop next bytes)
+IsNext bytes at es (Some (e, next)) = AreEntries (es ++ e ∷ []) × (next ≤ length bytes)
+    × (drop at bytes ≡ next_text es e ++ drop next bytes)
 IsNext bytes at es None = (e : Entry) (more : List ℕ) → AreEntries (es ++ e ∷ []) → drop at bytes ≢ next_text es e ++ more
 
 -- the restarts, 4 bytes each

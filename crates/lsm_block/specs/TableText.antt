@@ -36,7 +36,8 @@ pub record Blocks : Type 0 where
 -- One entry more. The open block is ended with it where its contents then have 4,096 bytes or more.
 unfoldable pub blocks_more : Blocks → Entry → Blocks
 blocks_more b e =
-    if nat_lt (length (block_text (b.begun ++ e ∷ []))) 4096 then record { ended = b.ended; begun = b.begun ++ e ∷ [] } else record { ended = b.ended ++ (b.begun ++ e ∷ []) ∷ []; begun = [] }
+    if nat_lt (length (block_text (b.begun ++ e ∷ []))) 4096 then record { ended = b.ended; begun = b.begun ++ e ∷ [] }
+    else record { ended = b.ended ++ (b.begun ++ e ∷ []) ∷ []; begun = [] }
 
 -- all entries, one after another
 unfoldable pub blocks_of : List Entry → Blocks
@@ -59,7 +60,8 @@ blocks_text blocks = flat_map (λ es. stored (block_text es)) blocks
 unfoldable pub index_from : ℕ → List (List Entry) → List Entry
 index_from place [] = []
 index_from place (es ∷ blocks) =
-    record { key = last_key es; value = varint place ++ varint (length (block_text es)) } ∷ index_from (place + length (stored (block_text es))) blocks
+    record { key = last_key es; value = varint place ++ varint (length (block_text es)) }
+    ∷ index_from (place + length (stored (block_text es))) blocks
 
 -- a table's number, the 20 bytes of its session, and the count of its rows
 unfoldable pub properties_text : ℕ → List ℕ → ℕ → List ℕ
@@ -75,14 +77,16 @@ magic = 108 ∷ 115 ∷ 109 ∷ 116 ∷ 97 ∷ 98 ∷ 108 ∷ 49 ∷ []
 
 -- the places, their masked checksum, and the last bytes
 unfoldable pub footer_text : ℕ → ℕ → ℕ → List ℕ
-footer_text index len properties = places_text index len properties ++ to_le_bytes w32 (masked (crc32c (places_text index len properties))) ++ magic
+footer_text index len properties = places_text index len properties
+    ++ to_le_bytes w32 (masked (crc32c (places_text index len properties))) ++ magic
 
 -- a table with these blocks, of which so many entries are rows
 unfoldable pub table_of_blocks : List (List Entry) → ℕ → ℕ → List ℕ → List ℕ
 table_of_blocks blocks count number session =
     let data_len : ℕ = length (blocks_text blocks) in
     let index : List ℕ = block_text (index_from 0 blocks) in
-    blocks_text blocks ++ stored index ++ stored (properties_text number session count) ++ footer_text data_len (length index) (data_len + length (stored index))
+    blocks_text blocks ++ stored index ++ stored (properties_text number session count)
+    ++ footer_text data_len (length index) (data_len + length (stored index))
 
 -- the text of the table with these rows, this number and this session
 unfoldable pub table_text : List Row → ℕ → List ℕ → List ℕ

@@ -9,10 +9,10 @@ use Rattle.lsm_frame.specs.Reader.{Stays}
 use Rattle.lsm_block.specs.declared.entries.Entry.{Entry}
 use Rattle.lsm_table.specs.DataBlocks.{IsDataBlock}
 use Rattle.lsm_table.specs.Tables.{Opened}
-use Rattle.lsm_table.proofs.Openings.{tells_back}
 use Rattle.lsm_cache.specs.declared.blocks.BlockPlace.{BlockPlace}
 use Rattle.lsm_cache.specs.Kept.{Kept, is_at, no_blocks, used, with_block, without_table}
 use Rattle.lsm_cache.specs.Getting.{IsBlockOf, AreBlocksOf}
+use Rattle.lsm_frame.proofs.Agreeing.{tells_before}
 
 -- a place that passes the test has these two numbers
 same_place : (number place : ℕ) (at : BlockPlace) → is_at number place at ≡ true → (at.number ≡ number) × (at.place ≡ place)
@@ -75,7 +75,7 @@ pub stays_are : (before now : Opened) (kept : Kept) → Stays before.viewed now.
 unfolding AreBlocksOf
 stays_are before now kept stays index properties are = λ at block among own text told.
     subst (λ es. IsDataBlock text es at.place block) (sym index)
-    (are at block among (own ∙ ap (λ p. p.number) properties) text (tells_back before.viewed now.viewed text stays told))
+    (are at block among (own ∙ ap (λ p. p.number) properties) text (tells_before before.viewed now.viewed text stays told))
 
 -- ---- the laws
 

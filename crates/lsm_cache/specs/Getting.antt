@@ -18,7 +18,8 @@ IsBlockOf table place block = (text : List ℕ) → Tells table.viewed text → 
 -- each block that is kept for a table is the one that the table has at its place
 unfoldable pub AreBlocksOf : Opened → Kept → Type 0
 AreBlocksOf table kept =
-    (at : BlockPlace) (block : List Entry) → Contains kept.entries (at, block) → at.number ≡ table.properties.number → IsBlockOf table at.place block
+    (at : BlockPlace) (block : List Entry) → Contains kept.entries (at, block) → at.number ≡ table.properties.number
+    → IsBlockOf table at.place block
 
 -- the answer is what a block has of a key, or memory was wanting
 unfoldable pub IsAnswerOf : List Entry → List ℕ → Result (Option Row) TableFault → Type 0
@@ -26,13 +27,15 @@ IsAnswerOf block key (Ok row) = IsRowOf block key row
 IsAnswerOf block key (Err fault) = fault ≡ NoMemory
 
 -- a kept block gave the answer: the table stays as it was, and the block is the one used last
-pub record IsFromKept (place : ℕ) (block : List Entry) (key : List ℕ) (table : Opened) (kept : Kept) (table_now : Opened) (kept_now : Kept) (answer : Result (Option Row) TableFault) : Type 0 where
+pub record IsFromKept (place : ℕ) (block : List Entry) (key : List ℕ) (table : Opened) (kept : Kept) (table_now : Opened)
+    (kept_now : Kept) (answer : Result (Option Row) TableFault) : Type 0 where
   pub answer_is : IsAnswerOf block key answer
   pub table_is : table_now ≡ table
   pub kept_is : kept_now ≡ used table.properties.number place kept
 
 -- a block that was read gave the answer, and is kept, or found no room
-pub record IsFromRead (place : ℕ) (key : List ℕ) (table : Opened) (kept kept_now : Kept) (answer : Result (Option Row) TableFault) : Type 0 where
+pub record IsFromRead (place : ℕ) (key : List ℕ) (table : Opened) (kept kept_now : Kept)
+    (answer : Result (Option Row) TableFault) : Type 0 where
   pub block : List Entry
   pub stands : IsBlockOf table place block
   pub answer_is : IsAnswerOf block key answer

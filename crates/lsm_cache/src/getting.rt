@@ -31,21 +31,27 @@ pub fn cached_get<V: View>(
     table: &mut Table<V>,
     key: &[u8],
 ) -> Result<Option<Row>, TableFault>
-    ensures ok { AreBlocksOf table.old cache.old → IfOk result (λ row. (text : List ℕ) → Tells table.old.viewed text → IsGot text table.old.index key.now row) }
+    ensures ok { AreBlocksOf table.old cache.old → IfOk result
+        (λ row. (text : List ℕ) → Tells table.old.viewed text → IsGot text table.old.index key.now row) }
     ensures err { IfErr result (λ e. (text : List ℕ) → Tells table.old.viewed text → IsNotGot text table.old.index key.now e) }
-    ensures whole { AreBlocksOf table.old cache.old → (text : List ℕ) (rows : List Row) (number : ℕ) (session : List ℕ) → Tells table.old.viewed text → IsTable text rows number session
+    ensures whole { AreBlocksOf table.old cache.old → (text : List ℕ) (rows : List Row) (number : ℕ) (session : List ℕ)
+        → Tells table.old.viewed text → IsTable text rows number session
         → MatchResult result (λ row. row ≡ newest key.now rows) IsOutside }
     ensures cause { IfErr result (λ e. e ≡ ReadFault → Rose table.old.viewed.faults table.new.viewed.faults) }
     ensures view { Stays table.old.viewed table.new.viewed }
     ensures index { table.new.index ≡ table.old.index }
     ensures properties { table.new.properties ≡ table.old.properties }
-    ensures outside { first_of_user key.now table.old.index ≡ None → (result ≡ Ok None) × (table.new ≡ table.old) × (cache.new ≡ cache.old) }
-    ensures kept { (place : ℕ) (block : List Entry) → IsLocated key.now table.old.index (Some place) → lookup (is_at table.old.properties.number place) cache.old.entries ≡ Some block
+    ensures outside { first_of_user key.now table.old.index ≡ None
+        → (result ≡ Ok None) × (table.new ≡ table.old) × (cache.new ≡ cache.old) }
+    ensures kept { (place : ℕ) (block : List Entry) → IsLocated key.now table.old.index (Some place)
+        → lookup (is_at table.old.properties.number place) cache.old.entries ≡ Some block
         → IsFromKept place block key.now table.old cache.old table.new cache.new result }
-    ensures read { (place : ℕ) → IsLocated key.now table.old.index (Some place) → lookup (is_at table.old.properties.number place) cache.old.entries ≡ None
+    ensures read { (place : ℕ) → IsLocated key.now table.old.index (Some place)
+        → lookup (is_at table.old.properties.number place) cache.old.entries ≡ None
         → IsFromTable place key.now table.old cache.old cache.new result }
     ensures blocks { AreBlocksOf table.old cache.old → AreBlocksOf table.new cache.new }
-    ensures others { (e : BlockPlace × List Entry) → Contains cache.new.entries e → e.0.number ≢ table.old.properties.number → Contains cache.old.entries e }
+    ensures others { (e : BlockPlace × List Entry) → Contains cache.new.entries e → e.0.number ≢ table.old.properties.number
+        → Contains cache.old.entries e }
 {
     let Some(place) = table.locate(key) else {
         return Ok(None);

@@ -20,19 +20,22 @@ pub fn a_block_may_be_put_for_its_table()
 
 /// What is put for a table is nothing to a table of another number.
 pub fn a_put_block_is_of_no_other_table()
-    ensures { (table : Opened) (kept : Kept) (number place : ℕ) (block : List Entry) → number ≢ table.properties.number → AreBlocksOf table kept
+    ensures { (table : Opened) (kept : Kept) (number place : ℕ) (block : List Entry) → number ≢ table.properties.number
+        → AreBlocksOf table kept
         → AreBlocksOf table (with_block number place block kept) }
 {}
 
 /// Where blocks of one table alone came, what was kept for the others is still theirs.
 pub fn blocks_of_one_table_change_no_other()
-    ensures { (other : Opened) (before now : Kept) (number : ℕ) → ((e : BlockPlace × List Entry) → Contains now.entries e → e.0.number ≢ number → Contains before.entries e)
+    ensures { (other : Opened) (before now : Kept) (number : ℕ)
+        → ((e : BlockPlace × List Entry) → Contains now.entries e → e.0.number ≢ number → Contains before.entries e)
         → other.properties.number ≢ number → AreBlocksOf other before → AreBlocksOf other now }
 {}
 
 /// A table whose view stays has the blocks that it had.
 pub fn a_table_that_stays_keeps_its_blocks()
-    ensures { (before now : Opened) (kept : Kept) → Stays before.viewed now.viewed → now.index ≡ before.index → now.properties ≡ before.properties
+    ensures { (before now : Opened) (kept : Kept) → Stays before.viewed now.viewed → now.index ≡ before.index
+        → now.properties ≡ before.properties
         → AreBlocksOf before kept → AreBlocksOf now kept }
 {}
 

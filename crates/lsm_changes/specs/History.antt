@@ -25,7 +25,8 @@ pub record Shown : Type 0 where
   pub room : ℕ
 
 abbrev pub coded_history : Coded Shown
-coded_history = code_by (List Change × ℕ) (coded× (coded_list coded_change) coded_ℕ) (λ r. (r.log, r.room)) (λ p. record { log = p.0; room = p.1 }) (λ _. refl)
+coded_history = code_by (List Change × ℕ) (coded× (coded_list coded_change) coded_ℕ) (λ r. (r.log, r.room))
+    (λ p. record { log = p.0; room = p.1 }) (λ _. refl)
 
 -- how many bytes a change appends
 abbrev pub appended_by : Change → ℕ

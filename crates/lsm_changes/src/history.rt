@@ -297,7 +297,8 @@ impl History {
         pick: u64,
     ) -> Result<NameTable, AllocError>
         ensures { (start : State) → first.now ≡ names_now start → files ≡ length start.files
-            → IfOk result (λ names. (kept : ℕ) × (names ≡ all_named (take kept (state_after start self.now.log).pending) (state_after start self.now.log).durable)) }
+            → IfOk result (λ names. (kept : ℕ) × (names ≡ all_named (take kept (state_after start self.now.log).pending)
+            (state_after start self.now.log).durable)) }
     {
         let count = kept_steps(&self.steps, pick);
         let names = first.copy()?;

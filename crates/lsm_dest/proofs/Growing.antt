@@ -38,6 +38,10 @@ names_push (p ∷ parts) part = ap (λ (l : List FileName). p.name ∷ l) (names
 file_within : {s : State} {path : List ℕ} {id : ℕ} {f : FileState} → IsFileNow s path id f → (n : ℕ) → n ≡ length s.files → id ≢ n
 file_within {s} {path} {id} {f} now n is same = let lt : id < length s.files = within s.files id f now.file in absurd (omega (arith, lt, same, is))
 
+-- nothing refuses a call on a file that stands
+pub file_there : (path : List ℕ) (id : ℕ) (f : FileState) (s : State) → IsFileNow s path id f → no_file path s ≡ None
+file_there path id f s now = ap (λ (o : Option ℕ). cond (is_some o) None (Some NotThere)) (now_at s path id f now)
+
 pub get_created : (s : State) (path p : List ℕ) → p ≢ path → map.get (names_now (after s (Created path))) p ≡ map.get (names_now s) p
 get_created s path p ne =
     let node : Node = File_node (length s.files) in
@@ -177,7 +181,7 @@ module _ (start : State) where
     }
 
     pub hand_there : (file : FileState) (s : State) → IsWriting start begun parts name file s → no_file path s ≡ None
-    hand_there file s w = ap (λ (o : Option ℕ). cond (is_some o) None (Some NotThere)) (now_at s path w.id file w.hand)
+    hand_there file s w = file_there path w.id file s w.hand
 
     pub step_append : (file : FileState) (bytes : List ℕ) (s : State) → IsWriting start begun parts name file s → IsWriting start begun parts name (longer bytes file) (after s (appended path bytes s))
     step_append file bytes s w = step_hand file (longer bytes file) s (appended path bytes s) w (appends_in_now s path w.id file w.hand bytes) (now_appended s path w.id file w.hand bytes)

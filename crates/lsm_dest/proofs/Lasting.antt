@@ -1,6 +1,6 @@
 -- What of the folder outlives a crash while `CURRENT` is written and takes its name.
-use Rattle.std.specs.Prelude.{◌≡◌, ◌≢◌, ◌⊎◌, ℕ, ◌≤◌, ◌<◌, cond, List, [], ◌∷◌, ◌++◌, length, take, slice_index_or, All, Option, Some, None}
-use Rattle.std.proofs.Common.{⊎_elim, inl, inr, sym, ap, subst, ◌∙◌, arith}
+use Rattle.std.specs.Prelude.{◌≡◌, ◌≢◌, ◌⊎◌, ℕ, ◌+◌, ◌≤◌, ◌<◌, cond, List, [], ◌∷◌, ◌++◌, length, take, slice_index_or, All, Option, Some, None}
+use Rattle.std.proofs.Common.{⊎_elim, inl, inr, refl, sym, ap, subst, ◌∙◌, arith, length-append}
 use Rattle.std.proofs.lemmas.List.{take_all}
 use Rattle.std.proofs.lemmas.List.Elements.{All-cons, All-head, All-tail, All-weaker}
 use Rattle.std.specs.FinMap as map
@@ -9,28 +9,25 @@ use Rattle.lsm_names.specs.FileNames.{spelled}
 use Rattle.lsm_names.specs.declared.file_names.FileName.{FileName}
 use Rattle.lsm_names.specs.declared.file_names.FileName.TheVariants.{Current}
 use Rattle.lsm_disk.specs.Names.{Node, Folder_node, File_node, NameOp, Put, Gone, Moved, Names, named, renamed, all_named, is_in, id_of}
-use Rattle.lsm_disk.specs.State.{State, Change, Created, Named, Appended, Synced, Names_synced, Idle, after, names_now, where_new, names_synced}
+use Rattle.lsm_disk.specs.State.{State, Change, Created, Named, Appended, Synced, Names_synced, Idle, after, names_now, new_file, longer, sure, where_new, names_synced}
 use Rattle.lsm_disk.specs.Images.{Tree, IsImage, bytes_at, bytes_by}
 use Rattle.lsm_disk.specs.Goes.{Shows}
 use Rattle.lsm_disk.specs.Kept.{IsKeptName, Spares, SparesName}
 use Rattle.lsm_disk.specs.Refusals.{no_room}
 use Rattle.lsm_disk.specs.Dest.{Begun, IsPartName, path_in, temporary}
-use Rattle.lsm_disk.specs.Building.{Part, names_of, with_current, sealed, IsWithin, LacksCurrent, HasPart, IsWhole, HasNoneOrAll, IsBuilding, IsKeptPart, IsBuilt, IsUnfinished}
+use Rattle.lsm_disk.specs.Building.{Part, names_of, with_current, sealed, IsWithin, LacksCurrent, HasPart, IsWhole, HasNoneOrAll, IsSealed, IsBuilding, IsKeptPart, IsBuilt}
 use Rattle.lsm_disk.proofs.Cuts.{take_none}
 use Rattle.lsm_disk.proofs.Paths.{path_cases, path_itself, get_put_other, get_gone_other}
 use Rattle.lsm_disk.proofs.Images.{take_push, all_push, after_names_synced}
 use Rattle.lsm_disk.proofs.Named.{name_now, name_image, name_spared, now_kept}
-use Rattle.lsm_disk.proofs.Kept.{kept_spared}
+use Rattle.lsm_disk.proofs.Kept.{kept_spared, kept_file_now}
 use Rattle.lsm_disk.proofs.Now.{names_after}
+use Rattle.lsm_disk.proofs.Tree.{length_in}
 use Rattle.lsm_publish.specs.Publishing.{IsPublished, Writes, Switches}
 use Rattle.lsm_publish.proofs.Olds.{within}
-use Rattle.lsm_publish.proofs.Switching.{whole_in}
 use Rattle.lsm_dest.proofs.Places.{part_is_file, temporary_is_file, not_current, not_temporary, names_apart, rests_apart, not_the_folder, inside_folder}
-use Rattle.lsm_dest.proofs.Growing.{all_names, room_in, current_free}
-
--- a durable part is in each image
-part_image : (s : State) (folder : List ℕ) (t : Tree) (part : Part) → IsImage s t → IsKeptPart folder s part → HasPart folder t part
-part_image s folder t part i kept = whole_in (path_in folder part.name) kept.id part.bytes s t kept.file i
+use Rattle.lsm_dest.proofs.Growing.{all_names, room_in}
+use Rattle.lsm_disk.proofs.Built.{part_image}
 
 -- ---- a sync of names
 
@@ -68,46 +65,102 @@ module _ (folder : List ℕ) where
   no_part_temporary : (names : List FileName) → All IsPartName names → All (λ name. spelled temporary ≢ spelled name) names
   no_part_temporary names own = All-weaker IsPartName (λ name. spelled temporary ≢ spelled name) (λ name is. names_apart temporary name temporary_is_file (part_is_file name is) (not_temporary name is)) names own
 
-  -- ---- where `CURRENT` isn't there
+  -- ---- the parts, for good
 
-  pub unfinished : (start s : State) → IsKeptName s current_path None → IsUnfinished start folder s
-  unfinished start s kept = record { now = name_now s current_path None kept; lacks = λ k. inr (kept k) }
+  -- the part outlives a crash, and its file was made since the folder was begun
+  pub record IsLastingPart (start s : State) (part : Part) : Type 0 where
+    pub kept : IsKeptPart folder s part
+    pub later : length start.files ≤ kept.id
+
+  lasting_spared : (start s : State) (part : Part) (c : Change) (is : IsLastingPart start s part) → Spares (path_in folder part.name) is.kept.id c → IsLastingPart start (after s c) part
+  lasting_spared start s part c is spares = record { kept = record { id = is.kept.id; file = kept_spared s (path_in folder part.name) is.kept.id (sealed part.bytes) is.kept.file c spares }; later = is.later }
+
+  -- The folder has the parts, and nothing else but perhaps what the temporary name has.
+  pub record IsLasting (start : State) (parts : List Part) (s : State) : Type 0 where
+    pub own : All IsPartName (names_of parts)
+    pub later : length start.files ≤ length s.files
+    pub stands : IsKeptName s folder (Some Folder_node)
+    pub each : All (IsLastingPart start s) parts
+    pub only : (rest : List ℕ) → rest ≢ spelled temporary → All (λ name. rest ≢ spelled name) (names_of parts) → IsKeptName s (folder ++ 47 ∷ rest) None
+
+  pub lasting_free : (start : State) (parts : List Part) (s : State) → IsLasting start parts s → IsKeptName s current_path None
+  lasting_free start parts s l = l.only (spelled Current) (names_apart Current temporary tt temporary_is_file (λ same. cc)) (no_part_current (names_of parts) l.own)
+
+  pub lasting_shows : (start : State) (parts whole : List Part) (s : State) → IsLasting start parts s → Shows (HasNoneOrAll start folder whole) s
+  lasting_shows start parts whole s l = record { each = λ t i. inl (inr (name_image s current_path None (lasting_free start parts s l) t i)) }
+
+  -- where the temporary name is free, the folder has the parts alone
+  pub lasting_building : (start : State) (names : List FileName) (parts : List Part) (s : State) → names ≡ names_of parts → IsLasting start parts s → map.get (names_now s) temporary_path ≡ None → IsBuilding start (record { folder = folder; names = names }) parts s
+  lasting_building start names parts s is l free = record {
+    names = is;
+    holds = record {
+      own = subst (All IsPartName) (sym is) l.own;
+      later = l.later;
+      stands = name_now s folder (Some Folder_node) l.stands;
+      only = λ rest others. ⊎_elim
+          (λ same. ap (λ (r : List ℕ). map.get (names_now s) (folder ++ 47 ∷ r)) same ∙ free)
+          (λ apart. name_now s (folder ++ 47 ∷ rest) None (l.only rest apart (subst (All (λ name. rest ≢ spelled name)) is others)))
+          (path_cases rest (spelled temporary));
+      lacks = λ k. inr (lasting_free start parts s l k);
+    };
+    each = All-weaker (IsLastingPart start s) (IsSealed start folder s)
+        (λ part lasts. record { id = lasts.kept.id; later = lasts.later; file = kept_file_now s (path_in folder part.name) lasts.kept.id (sealed part.bytes) lasts.kept.file }) parts l.each;
+  }
+
+  abbrev gone : NameOp
+  gone = Gone temporary_path
+
+  lasting_unnamed : (start : State) (parts : List Part) (s : State) → IsLasting start parts s → IsLasting start parts (after s (Named gone))
+  lasting_unnamed start parts s l =
+      let owned : All (λ (part : Part). IsPartName part.name) parts = all_names IsPartName parts l.own in
+      record {
+        own = l.own;
+        later = l.later;
+        stands = name_spared s folder (Some Folder_node) l.stands (Named gone) (not_the_folder folder (spelled temporary));
+        each = λ k d lt. let part = slice_index_or parts k d in lasting_spared start s part (Named gone) (l.each k d lt) (part_apart part.name (owned k d lt));
+        only = λ rest apart others. name_spared s (folder ++ 47 ∷ rest) None (l.only rest apart others) (Named gone) (rests_apart folder rest (spelled temporary) apart);
+      }
+
+  unnamed_free : (s : State) → map.get (names_now (after s (Named gone))) temporary_path ≡ None
+  unnamed_free s =
+      ap (λ (n : Names). map.get n temporary_path) (names_after s gone)
+      ∙ map.get-remove nat_list_cmp_total (names_now s) temporary_path temporary_path ∙ ap (λ b. cond b None (map.get (names_now s) temporary_path)) (path_itself temporary_path)
+
+  -- where the temporary name is taken away, the folder has the parts alone
+  pub lasting_cleared : (start : State) (names : List FileName) (parts : List Part) (s : State) → names ≡ names_of parts → IsLasting start parts s → IsBuilding start (record { folder = folder; names = names }) parts (after s (Named gone))
+  lasting_cleared start names parts s is l = lasting_building start names parts (after s (Named gone)) is (lasting_unnamed start parts s l) (unnamed_free s)
 
   -- ---- the folder without `CURRENT`, durable
 
   pub record IsDurable (start : State) (parts : List Part) (s : State) : Type 0 where
-    pub own : All IsPartName (names_of parts)
-    pub later : length start.files ≤ length s.files
-    pub built : IsBuilt folder parts s
+    pub lasts : IsLasting start parts s
+    pub free : IsKeptName s temporary_path None
 
   pub durable_free : (start : State) (parts : List Part) (s : State) → IsDurable start parts s → IsKeptName s current_path None
-  durable_free start parts s d = d.built.only (spelled Current) (no_part_current (names_of parts) d.own)
+  durable_free start parts s d = lasting_free start parts s d.lasts
 
   pub durable_shows : (start : State) (parts whole : List Part) (s : State) → IsDurable start parts s → Shows (HasNoneOrAll start folder whole) s
-  durable_shows start parts whole s d = record { each = λ t i. inl (inr (name_image s current_path None (durable_free start parts s d) t i)) }
+  durable_shows start parts whole s d = lasting_shows start parts whole s d.lasts
 
   -- the temporary name has room
   pub durable_room : (start : State) (parts : List Part) (s : State) → IsDurable start parts s → no_room temporary_path s ≡ None
   durable_room start parts s d =
-      room_in (names_now s) folder temporary temporary_is_file (name_now s folder (Some Folder_node) d.built.stands)
-      (name_now s temporary_path None (d.built.only (spelled temporary) (no_part_temporary (names_of parts) d.own)))
+      room_in (names_now s) folder temporary temporary_is_file (name_now s folder (Some Folder_node) d.lasts.stands) (name_now s temporary_path None d.free)
 
   -- ---- while the temporary file is written
 
-  -- The parts are other files than the temporary one, and nothing else is inside.
-  pub record IsFirm (parts : List Part) (id : ℕ) (s : State) : Type 0 where
-    pub own : All IsPartName (names_of parts)
-    pub stands : IsKeptName s folder (Some Folder_node)
-    pub each : All (λ part. (is : IsKeptPart folder s part) × (is.id ≢ id)) parts
-    pub only : (rest : List ℕ) → rest ≢ spelled temporary → All (λ name. rest ≢ spelled name) (names_of parts) → IsKeptName s (folder ++ 47 ∷ rest) None
+  -- The parts are other files than the temporary one, and nothing else is inside. As long as that file isn't made, its name is free.
+  pub record IsFirm (start : State) (parts : List Part) (id : ℕ) (s : State) : Type 0 where
+    pub lasts : IsLasting start parts s
+    pub apart : All (λ part. (is : IsLastingPart start s part) × (is.kept.id ≢ id)) parts
+    pub next : ((id ≡ length s.files) × IsKeptName s temporary_path None) ⊎ (id < length s.files)
 
-  pub durable_firm : (start : State) (parts : List Part) (s : State) → IsDurable start parts s → IsFirm parts (length s.files) s
+  pub durable_firm : (start : State) (parts : List Part) (s : State) → IsDurable start parts s → IsFirm start parts (length s.files) s
   durable_firm start parts s d = record {
-    own = d.own;
-    stands = d.built.stands;
-    each = All-weaker (IsKeptPart folder s) (λ part. (is : IsKeptPart folder s part) × (is.id ≢ length s.files))
-        (λ part is. (is, λ same. let lt : is.id < length s.files = within s.files is.id (sealed part.bytes) is.file.file in absurd (omega (arith, lt, same)))) parts d.built.each;
-    only = λ rest apart others. d.built.only rest others;
+    lasts = d.lasts;
+    apart = All-weaker (IsLastingPart start s) (λ part. (is : IsLastingPart start s part) × (is.kept.id ≢ length s.files))
+        (λ part is. (is, λ same. let lt : is.kept.id < length s.files = within s.files is.kept.id (sealed part.bytes) is.kept.file.file in absurd (omega (arith, lt, same)))) parts d.lasts.each;
+    next = inl (refl, d.free);
   }
 
   writes_spare_name : (path : List ℕ) (id : ℕ) (c : Change) → Writes temporary_path id c → path ≢ temporary_path → SparesName path c
@@ -126,18 +179,48 @@ module _ (folder : List ℕ) where
   writes_spare path other id Names_synced is ne apart = tt
   writes_spare path other id Idle is ne apart = tt
 
-  pub firm_kept : (parts : List Part) (id : ℕ) (s : State) (c : Change) → Writes temporary_path id c → IsFirm parts id s → IsFirm parts id (after s c)
-  firm_kept parts id s c writes f =
-      let owned : All (λ (part : Part). IsPartName part.name) parts = all_names IsPartName parts f.own in
+  next_kept : (id : ℕ) (s : State) (c : Change) → Writes temporary_path id c → ((id ≡ length s.files) × IsKeptName s temporary_path None) ⊎ (id < length s.files)
+      → ((id ≡ length (after s c).files) × IsKeptName (after s c) temporary_path None) ⊎ (id < length (after s c).files)
+  next_kept id s (Created other) is next =
+      let one : length (s.files ++ new_file ∷ []) ≡ length s.files + 1 = length-append s.files (new_file ∷ []) in
+      inr (⊎_elim (λ first. omega (arith, one, first.0)) (λ made. omega (arith, one, made)) next)
+  next_kept id s (Named op) is next = absurd is
+  next_kept id s (Appended k bytes) is next = ⊎_elim (λ first. inl (omega (arith, first.0, length_in (longer bytes) k s.files), first.1)) (λ made. inr (omega (arith, made, length_in (longer bytes) k s.files))) next
+  next_kept id s (Synced k) is next = ⊎_elim (λ first. inl (omega (arith, first.0, length_in sure k s.files), first.1)) (λ made. inr (omega (arith, made, length_in sure k s.files))) next
+  next_kept id s Names_synced is next = ⊎_elim (λ first. inl (first.0, name_spared s temporary_path None first.1 Names_synced tt)) (λ made. inr made) next
+  next_kept id s Idle is next = next
+
+  writes_grow : (n id : ℕ) (s : State) (c : Change) → Writes temporary_path id c → n ≤ length s.files → n ≤ length (after s c).files
+  writes_grow n id s (Created other) is le = omega (arith, le, length-append s.files (new_file ∷ []))
+  writes_grow n id s (Named op) is le = absurd is
+  writes_grow n id s (Appended k bytes) is le = omega (arith, le, length_in (longer bytes) k s.files)
+  writes_grow n id s (Synced k) is le = omega (arith, le, length_in sure k s.files)
+  writes_grow n id s Names_synced is le = le
+  writes_grow n id s Idle is le = le
+
+  pub firm_kept : (start : State) (parts : List Part) (id : ℕ) (s : State) (c : Change) → Writes temporary_path id c → IsFirm start parts id s → IsFirm start parts id (after s c)
+  unfolding lasting_spared
+  firm_kept start parts id s c writes f =
+      let owned : All (λ (part : Part). IsPartName part.name) parts = all_names IsPartName parts f.lasts.own in
+      let apart : All (λ part. (is : IsLastingPart start (after s c) part) × (is.kept.id ≢ id)) parts = λ k d lt.
+      let part = slice_index_or parts k d in
+      let is = f.apart k d lt in
+      (lasting_spared start s part c is.0 (writes_spare (path_in folder part.name) is.0.kept.id id c writes (part_apart part.name (owned k d lt)) is.1), is.1) in
       record {
-        own = f.own;
-        stands = name_spared s folder (Some Folder_node) f.stands c (writes_spare_name folder id c writes (not_the_folder folder (spelled temporary)));
-        each = λ k d lt.
-            let part = slice_index_or parts k d in
-            let is = f.each k d lt in
-            (record { id = is.0.id; file = kept_spared s (path_in folder part.name) is.0.id (sealed part.bytes) is.0.file c (writes_spare (path_in folder part.name) is.0.id id c writes (part_apart part.name (owned k d lt)) is.1) }, is.1);
-        only = λ rest apart others. name_spared s (folder ++ 47 ∷ rest) None (f.only rest apart others) c (writes_spare_name (folder ++ 47 ∷ rest) id c writes (rests_apart folder rest (spelled temporary) apart));
+        lasts = record {
+          own = f.lasts.own;
+          later = writes_grow (length start.files) id s c writes f.lasts.later;
+          stands = name_spared s folder (Some Folder_node) f.lasts.stands c (writes_spare_name folder id c writes (not_the_folder folder (spelled temporary)));
+          each = All-weaker (λ part. (is : IsLastingPart start (after s c) part) × (is.kept.id ≢ id)) (IsLastingPart start (after s c)) (λ part is. is.0) parts apart;
+          only = λ rest apart others. name_spared s (folder ++ 47 ∷ rest) None (f.lasts.only rest apart others) c (writes_spare_name (folder ++ 47 ∷ rest) id c writes (rests_apart folder rest (spelled temporary) apart));
+        };
+        apart = apart;
+        next = next_kept id s c writes f.next;
       }
+
+  -- where no file was made, the temporary name is free
+  pub firm_free : (start : State) (parts : List Part) (id : ℕ) (s : State) → IsFirm start parts id s → length s.files ≡ id → map.get (names_now s) temporary_path ≡ None
+  firm_free start parts id s f same = ⊎_elim (λ first. name_now s temporary_path None first.1) (λ made. absurd (omega (arith, made, same))) f.next
 
   pub writes_within : (first id : ℕ) (c : Change) → first ≤ id → Writes temporary_path id c → IsWithin folder first c
   writes_within first id (Created other) le is = ap (is_in folder) is ∙ inside_folder folder (spelled temporary)
@@ -157,22 +240,37 @@ module _ (folder : List ℕ) where
   abbrev pub NotBoth : Names → Type 0
   NotBoth names = (map.get names temporary_path ≡ None) ⊎ (map.get names current_path ≡ None)
 
-  pub record IsSwitchable (parts : List Part) (s : State) : Type 0 where
+  pub record IsSwitchable (start : State) (parts : List Part) (s : State) : Type 0 where
     pub own : All IsPartName (names_of parts)
+    pub later : length start.files ≤ length s.files
     pub stands : IsKeptName s folder (Some Folder_node)
-    pub each : All (IsKeptPart folder s) parts
+    pub each : All (IsLastingPart start s) parts
     pub only : (rest : List ℕ) → rest ≢ spelled temporary → rest ≢ spelled Current → All (λ name. rest ≢ spelled name) (names_of parts) → IsKeptName s (folder ++ 47 ∷ rest) None
     pub one : (k : ℕ) → NotBoth (all_named (take k s.pending) s.durable)
     pub file : NoneOrFile (names_now s)
 
-  pub firm_switchable : (parts : List Part) (id : ℕ) (s : State) → IsFirm parts id s → IsKeptName s current_path None → map.get (names_now s) temporary_path ≡ Some (File_node id) → IsSwitchable parts s
-  firm_switchable parts id s f free leads = record {
-    own = f.own;
-    stands = f.stands;
-    each = All-weaker (λ part. (is : IsKeptPart folder s part) × (is.id ≢ id)) (IsKeptPart folder s) (λ part is. is.0) parts f.each;
-    only = λ rest apart current others. f.only rest apart others;
+  pub firm_switchable : (start : State) (parts : List Part) (id : ℕ) (s : State) → IsFirm start parts id s → IsKeptName s current_path None → map.get (names_now s) temporary_path ≡ Some (File_node id) → IsSwitchable start parts s
+  firm_switchable start parts id s f free leads = record {
+    own = f.lasts.own;
+    later = f.lasts.later;
+    stands = f.lasts.stands;
+    each = f.lasts.each;
+    only = λ rest apart current others. f.lasts.only rest apart others;
     one = λ k. inr (free k);
     file = inr (id, leads);
+  }
+
+  -- where `CURRENT` has not its name, nothing else was added
+  pub switchable_lasting : (start : State) (parts : List Part) (s : State) → IsSwitchable start parts s → IsKeptName s current_path None → IsLasting start parts s
+  switchable_lasting start parts s w free = record {
+    own = w.own;
+    later = w.later;
+    stands = w.stands;
+    each = w.each;
+    only = λ rest apart others. ⊎_elim
+        (λ same. subst (λ (r : List ℕ). IsKeptName s (folder ++ 47 ∷ r) None) (sym same) free)
+        (λ current. w.only rest apart current others)
+        (path_cases rest (spelled Current));
   }
 
   abbrev move : NameOp
@@ -199,21 +297,25 @@ module _ (folder : List ℕ) where
       ∙ moved_other (names_now s) path file apart current ∙ name_now s path node kept)
       (take_push k s.pending move)
 
-  switchable_moved : (parts : List Part) (s : State) → IsSwitchable parts s → IsSwitchable parts (after s (Named move))
-  switchable_moved parts s w =
+  switchable_moved : (start : State) (parts : List Part) (s : State) → IsSwitchable start parts s → IsSwitchable start parts (after s (Named move))
+  switchable_moved start parts s w =
       let owned : All (λ (part : Part). IsPartName part.name) parts = all_names IsPartName parts w.own in
       record {
         own = w.own;
+        later = w.later;
         stands = name_moved s folder (Some Folder_node) w.file (not_the_folder folder (spelled temporary)) (not_the_folder folder (spelled Current)) w.stands;
         each = λ k d lt.
             let part = slice_index_or parts k d in
             let is = w.each k d lt in
             record {
-              id = is.id;
-              file = record {
-                named = name_moved s (path_in folder part.name) (Some (File_node is.id)) w.file (part_apart part.name (owned k d lt)) (part_not_current part.name (owned k d lt)) is.file.named;
-                file = is.file.file;
+              kept = record {
+                id = is.kept.id;
+                file = record {
+                  named = name_moved s (path_in folder part.name) (Some (File_node is.kept.id)) w.file (part_apart part.name (owned k d lt)) (part_not_current part.name (owned k d lt)) is.kept.file.named;
+                  file = is.kept.file.file;
+                };
               };
+              later = is.later;
             };
         only = λ rest apart current others. name_moved s (folder ++ 47 ∷ rest) None w.file (rests_apart folder rest (spelled temporary) apart) (rests_apart folder rest (spelled Current) current) (w.only rest apart current others);
         one = λ k. ⊎_elim
@@ -223,11 +325,12 @@ module _ (folder : List ℕ) where
         file = inl (ap (λ (n : Names). map.get n temporary_path) (names_after s move) ∙ moved_away (names_now s) w.file);
       }
 
-  switchable_synced : (parts : List Part) (s : State) → IsSwitchable parts s → IsSwitchable parts (after s Names_synced)
-  switchable_synced parts s w = record {
+  switchable_synced : (start : State) (parts : List Part) (s : State) → IsSwitchable start parts s → IsSwitchable start parts (after s Names_synced)
+  switchable_synced start parts s w = record {
     own = w.own;
+    later = w.later;
     stands = name_spared s folder (Some Folder_node) w.stands Names_synced tt;
-    each = All-weaker (IsKeptPart folder s) (IsKeptPart folder (after s Names_synced)) (λ part is. record { id = is.id; file = kept_spared s (path_in folder part.name) is.id (sealed part.bytes) is.file Names_synced tt }) parts w.each;
+    each = All-weaker (IsLastingPart start s) (IsLastingPart start (after s Names_synced)) (λ part is. lasting_spared start s part Names_synced is tt) parts w.each;
     only = λ rest apart current others. name_spared s (folder ++ 47 ∷ rest) None (w.only rest apart current others) Names_synced tt;
     one = λ k. subst NotBoth
         (ap (λ (ops : List NameOp). all_named ops s.durable) (take_all (length s.pending) s.pending (omega arith)) ∙ sym (ap (λ (ops : List NameOp). all_named ops (names_now s)) (take_none k)))
@@ -235,20 +338,20 @@ module _ (folder : List ℕ) where
     file = w.file;
   }
 
-  move_kept : (parts : List Part) (s : State) (from to : List ℕ) → from ≡ temporary_path → to ≡ current_path → IsSwitchable parts s → IsSwitchable parts (after s (Named (Moved from to)))
-  move_kept parts s from to from_is to_is w =
-      subst (λ (f : List ℕ). IsSwitchable parts (after s (Named (Moved f to)))) (sym from_is)
-      (subst (λ (t : List ℕ). IsSwitchable parts (after s (Named (Moved temporary_path t)))) (sym to_is) (switchable_moved parts s w))
+  move_kept : (start : State) (parts : List Part) (s : State) (from to : List ℕ) → from ≡ temporary_path → to ≡ current_path → IsSwitchable start parts s → IsSwitchable start parts (after s (Named (Moved from to)))
+  move_kept start parts s from to from_is to_is w =
+      subst (λ (f : List ℕ). IsSwitchable start parts (after s (Named (Moved f to)))) (sym from_is)
+      (subst (λ (t : List ℕ). IsSwitchable start parts (after s (Named (Moved temporary_path t)))) (sym to_is) (switchable_moved start parts s w))
 
-  pub switchable_kept : (parts : List Part) (s : State) (c : Change) → Switches temporary_path current_path c → IsSwitchable parts s → IsSwitchable parts (after s c)
-  switchable_kept parts s (Created other) is w = absurd is
-  switchable_kept parts s (Named (Put path node)) is w = absurd is
-  switchable_kept parts s (Named (Gone path)) is w = absurd is
-  switchable_kept parts s (Named (Moved from to)) is w = move_kept parts s from to is.0 is.1 w
-  switchable_kept parts s (Appended k bytes) is w = absurd is
-  switchable_kept parts s (Synced k) is w = absurd is
-  switchable_kept parts s Names_synced is w = switchable_synced parts s w
-  switchable_kept parts s Idle is w = w
+  pub switchable_kept : (start : State) (parts : List Part) (s : State) (c : Change) → Switches temporary_path current_path c → IsSwitchable start parts s → IsSwitchable start parts (after s c)
+  switchable_kept start parts s (Created other) is w = absurd is
+  switchable_kept start parts s (Named (Put path node)) is w = absurd is
+  switchable_kept start parts s (Named (Gone path)) is w = absurd is
+  switchable_kept start parts s (Named (Moved from to)) is w = move_kept start parts s from to is.0 is.1 w
+  switchable_kept start parts s (Appended k bytes) is w = absurd is
+  switchable_kept start parts s (Synced k) is w = absurd is
+  switchable_kept start parts s Names_synced is w = switchable_synced start parts s w
+  switchable_kept start parts s Idle is w = w
 
   pub switches_within : (first : ℕ) (c : Change) → Switches temporary_path current_path c → IsWithin folder first c
   switches_within first (Created other) is = absurd is
@@ -266,10 +369,10 @@ module _ (folder : List ℕ) where
   clash_current : (names : Names) (id : ℕ) → map.get names current_path ≡ Some (File_node id) → map.get names current_path ≡ None → ⊥
   clash_current names id is none = let clash : None ≡ Some (File_node id) = sym none ∙ is in cc
 
-  pub switched_built : (parts : List Part) (bytes : List ℕ) (id : ℕ) (s : State) → IsSwitchable parts s → IsPublished current_path id bytes s → IsBuilt folder (with_current bytes parts) s
-  switched_built parts bytes id s w published = record {
+  pub switched_built : (start : State) (parts : List Part) (bytes : List ℕ) (id : ℕ) (s : State) → IsSwitchable start parts s → IsPublished current_path id bytes s → IsBuilt folder (with_current bytes parts) s
+  switched_built start parts bytes id s w published = record {
     stands = w.stands;
-    each = All-cons (IsKeptPart folder s) (record { name = Current; bytes = bytes }) parts (record { id = id; file = published }) w.each;
+    each = All-cons (IsKeptPart folder s) (record { name = Current; bytes = bytes }) parts (record { id = id; file = published }) (All-weaker (IsLastingPart start s) (IsKeptPart folder s) (λ part lasts. lasts.kept) parts w.each);
     only = λ rest others.
         let current = All-head (λ name. rest ≢ spelled name) Current (names_of parts) others in
         let parts_apart = All-tail (λ name. rest ≢ spelled name) Current (names_of parts) others in
@@ -284,10 +387,10 @@ module _ (folder : List ℕ) where
   current_there : (t : Tree) (bytes : List ℕ) → bytes_at t current_path ≡ Some bytes → map.get t.names current_path ≡ None → ⊥
   current_there t bytes is none = let clash : None ≡ Some bytes = sym (ap (λ (o : Option Node). bytes_by (id_of o) t) none) ∙ is in cc
 
-  pub switched_whole : (parts : List Part) (bytes : List ℕ) (s : State) (t : Tree) → IsSwitchable parts s → IsImage s t → bytes_at t current_path ≡ Some bytes → IsWhole folder (with_current bytes parts) t
-  switched_whole parts bytes s t w i is = record {
+  pub switched_whole : (start : State) (parts : List Part) (bytes : List ℕ) (s : State) (t : Tree) → IsSwitchable start parts s → IsImage s t → bytes_at t current_path ≡ Some bytes → IsWhole folder (with_current bytes parts) t
+  switched_whole start parts bytes s t w i is = record {
     stands = name_image s folder (Some Folder_node) w.stands t i;
-    each = All-cons (HasPart folder t) (record { name = Current; bytes = bytes }) parts is (All-weaker (IsKeptPart folder s) (HasPart folder t) (λ part kept. part_image s folder t part i kept) parts w.each);
+    each = All-cons (HasPart folder t) (record { name = Current; bytes = bytes }) parts is (All-weaker (IsLastingPart start s) (HasPart folder t) (λ part lasts. part_image s folder t part i lasts.kept) parts w.each);
     only = λ rest others.
         let current = All-head (λ name. rest ≢ spelled name) Current (names_of parts) others in
         let parts_apart = All-tail (λ name. rest ≢ spelled name) Current (names_of parts) others in
@@ -303,21 +406,22 @@ pub building_durable : (start : State) (begun : Begun) (parts : List Part) (s : 
 building_durable start begun parts s b =
     let folder : List ℕ = begun.folder in
     let now : State = after s (names_synced s) in
+    let own : All IsPartName (names_of parts) = subst (All IsPartName) b.names b.holds.own in
+    let only : (rest : List ℕ) → All (λ name. rest ≢ spelled name) (names_of parts) → IsKeptName now (folder ++ 47 ∷ rest) None = λ rest others.
+    name_synced s (folder ++ 47 ∷ rest) None (b.holds.only rest (subst (All (λ name. rest ≢ spelled name)) (sym b.names) others)) in
     record {
-      own = subst (All IsPartName) b.names b.holds.own;
-      later = subst (λ (x : State). length start.files ≤ length x.files) (sym (after_names_synced s)) b.holds.later;
-      built = record {
+      lasts = record {
+        own = own;
+        later = subst (λ (x : State). length start.files ≤ length x.files) (sym (after_names_synced s)) b.holds.later;
         stands = name_synced s folder (Some Folder_node) b.holds.stands;
         each = λ k d lt.
             let part = slice_index_or parts k d in
             let is = b.each k d lt in
-            record { id = is.id; file = now_kept s (path_in folder part.name) is.id (sealed part.bytes) is.file };
-        only = λ rest others. name_synced s (folder ++ 47 ∷ rest) None (b.holds.only rest (subst (All (λ name. rest ≢ spelled name)) (sym b.names) others));
+            record { kept = record { id = is.id; file = now_kept s (path_in folder part.name) is.id (sealed part.bytes) is.file }; later = is.later };
+        only = λ rest apart others. only rest others;
       };
+      free = only (spelled temporary) (no_part_temporary folder (names_of parts) own);
     }
-
-pub building_unfinished : (start : State) (begun : Begun) (parts : List Part) (s : State) → IsBuilding start begun parts s → IsUnfinished start begun.folder s
-building_unfinished start begun parts s b = record { now = current_free start begun.folder begun.names s b.holds; lacks = b.holds.lacks }
 
 pub building_none : (start : State) (begun : Begun) (parts whole : List Part) (s : State) → IsBuilding start begun parts s → Shows (HasNoneOrAll start begun.folder whole) s
 building_none start begun parts whole s b = record { each = λ t i. inl (subst (LacksCurrent start begun.folder) (sym i.names) (b.holds.lacks i.kept)) }

@@ -3,6 +3,5 @@ pub mod Refusing
 pub mod Growing
 pub mod Calls
 pub mod Exits
-pub mod Along
 pub mod Lasting
 pub mod Finishing

@@ -1,11 +1,15 @@
 -- What is seen of a destination over a disk, and how a refused disk call is answered.
-use Rattle.std.specs.Prelude.{ℕ, ◌≤◌, List, Option, Some, option_map, Result, Ok, Err}
+use Rattle.std.specs.Prelude.{◌≡◌, ◌≢◌, ℕ, ◌≤◌, List, Option, Some, option_map, Result, Ok, Err}
 use Rattle.lsm_names.specs.declared.file_names.FileName.{FileName}
-use Rattle.lsm_disk.specs.State.{State, Seen}
+use Rattle.lsm_disk.specs.State.{State, Seen, unnamed}
+use Rattle.lsm_disk.specs.Refusals.{no_file}
+use Rattle.lsm_disk.specs.Answers.{Makes, Did, Answers}
+use Rattle.lsm_disk.specs.Halts.{halt_at}
 use Rattle.lsm_disk.specs.Dest.{Begun}
-use Rattle.lsm_disk.specs.Building.{Part, IsBuilt, Finishes}
+use Rattle.lsm_disk.specs.Building.{Part, with_current, IsBuilt, Finishes}
 use Rattle.lsm_disk.specs.declared.calls.DiskError.{DiskError}
 use Rattle.lsm_disk.specs.declared.calls.DiskError.TheVariants as disk
+use Rattle.lsm_disk.specs.declared.calls.DiskCall.TheVariants as call
 use Rattle.lsm_disk.specs.declared.calls.Halt.{Halt}
 use Rattle.lsm_disk.specs.declared.calls.DiskRefusal.{DiskRefusal}
 use Rattle.lsm_disk.specs.declared.dest.DestError.{DestError}
@@ -41,6 +45,21 @@ pub record IsLater (old new : Seen) : Type 0 where
   pub refusals : old.refusals ≤ new.refusals
 
 -- what the end of a folder leaves, by the answer that a refused disk call gets
-abbrev pub EndsAs : {T : Type 0} → State → List ℕ → List Part → Result T DiskRefusal → State → Type 0
-EndsAs start folder whole (Ok value) s = IsBuilt folder whole s
-EndsAs start folder whole (Err r) s = Finishes {T = Unit {0}} start folder whole (Err (answer_by r.at r.why)) s
+abbrev pub EndsAs : {T : Type 0} → State → Begun → List Part → List ℕ → Result T DiskRefusal → State → Type 0
+EndsAs start begun parts current (Ok value) s = IsBuilt begun.folder (with_current current parts) s
+EndsAs start begun parts current (Err r) s = Finishes {T = Unit {0}} start begun parts current (Err (answer_by r.at r.why)) s
+
+-- memory was wanted after the temporary name was made
+abbrev pub LeavesName : DiskRefusal → Type 0
+LeavesName refusal = (refusal.why ≡ disk.NoMemory) × (refusal.at.call ≢ call.Create)
+
+-- After a refusal that leaves the temporary name, it is taken away; and where the unlink is refused, that is the answer. After
+-- each other refusal nothing is done.
+pub data TakesBack (temporary : List ℕ) (refusal : DiskRefusal) (old new : Seen) (result : DiskRefusal) : Type 0 where
+  Left_alone : (refusal.why ≡ disk.NoMemory → refusal.at.call ≡ call.Create) → result ≡ refusal → new ≡ old
+      → TakesBack temporary refusal old new result
+  Taken_away : LeavesName refusal → result ≡ refusal → Makes old.told (unnamed temporary) new.told
+      → TakesBack temporary refusal old new result
+  Not_taken : LeavesName refusal → (why : DiskError) → result ≡ record { at = halt_at call.Unlink temporary; why = why }
+      → why ≢ disk.NoMemory → Did {T = Unit {0}} (unnamed temporary) (no_file temporary) old new (Err why)
+      → Answers {T = Unit {0}} (no_file temporary) old (Err why) → TakesBack temporary refusal old new result

@@ -1,6 +1,8 @@
 //! How a refused disk call is answered, and what halts.
-ghost use Rattle.std.specs.Prelude.{◌≡◌};
-ghost use Rattle.lsm_dest.specs.FolderDests.{answer_by, halt_by, begin_answer_by, begin_halt_by};
+ghost use Rattle.std.specs.Prelude.{◌≡◌, true, false};
+ghost use Rattle.lsm_disk.specs.declared.calls.DiskCall.TheVariants as calls;
+ghost use Rattle.lsm_disk.specs.declared.calls.DiskError.TheVariants as errors;
+ghost use Rattle.lsm_dest.specs.FolderDests.{answer_by, halt_by, begin_answer_by, begin_halt_by, LeavesName};
 
 use lsm_disk::{DestError, DiskCall, DiskError, DiskRefusal, Halt};
 use lsm_names::Path;
@@ -11,6 +13,20 @@ pub fn refused(call: DiskCall, path: &Path, why: DiskError) -> DiskRefusal
     DiskRefusal {
         at: Halt { call, path: *path },
         why,
+    }
+}
+
+/// Whether memory was wanted after the temporary name was made.
+pub fn leaves_name(refusal: &DiskRefusal) -> bool
+    ensures leaves { result ≡ true → LeavesName refusal.now }
+    ensures spares { result ≡ false → refusal.now.why ≡ errors.NoMemory → refusal.now.at.call ≡ calls.Create }
+{
+    match refusal.why {
+        DiskError::NoMemory => match refusal.at.call {
+            DiskCall::Create => false,
+            _ => true,
+        },
+        _ => false,
     }
 }
 

@@ -21,12 +21,12 @@ use Rattle.lsm_disk.proofs.Tree.{free_below}
 
 -- ---- what is inside and what is not
 
-tail_append : (r rest : List ℕ) → under [] r ≡ Some r → under [] rest ≡ Some rest → under [] (r ++ rest) ≡ Some (r ++ rest)
+pub tail_append : (r rest : List ℕ) → under [] r ≡ Some r → under [] rest ≡ Some rest → under [] (r ++ rest) ≡ Some (r ++ rest)
 tail_append [] rest tail more = more
 tail_append (c ∷ r) rest tail more = elim (c == 47) as (λ b. cond b (Some (c ∷ r)) None ≡ Some (c ∷ r) → cond b (Some (c ∷ r ++ rest)) None ≡ Some (c ∷ r ++ rest)) [ true ↦ λ h. refl | false ↦ λ h. cc ] tail
 
 -- what is inside a path that is inside the folder is inside the folder
-in_trans : (folder p path rest : List ℕ) → is_in folder p ≡ true → under p path ≡ Some rest → is_in folder path ≡ true
+pub in_trans : (folder p path rest : List ℕ) → is_in folder p ≡ true → under p path ≡ Some rest → is_in folder path ≡ true
 in_trans [] p path rest inside is = refl
 in_trans (c ∷ folder) p path rest inside is = by_rest (under (c ∷ folder) p) refl inside where
   by_rest : (o : Option (List ℕ)) → under (c ∷ folder) p ≡ o → is_some o ≡ true → is_in (c ∷ folder) path ≡ true
@@ -86,7 +86,7 @@ free_lacks start folder names lawful some free (inl was) =
     ap (λ (n : Names). map.get n (path_in folder Current)) was.1 ∙ get_inside before folder (spelled Current)
     ∙ free_below before folder (spelled Current) (lawful.trees was.0) (free_stands before folder some (free was.0))
 
-part_image : (s : State) (folder : List ℕ) (t : Tree) (part : Part) → IsImage s t → IsKeptPart folder s part → HasPart folder t part
+pub part_image : (s : State) (folder : List ℕ) (t : Tree) (part : Part) → IsImage s t → IsKeptPart folder s part → HasPart folder t part
 part_image s folder t part i kept =
     let held = kept_image s (path_in folder part.name) kept.id (sealed part.bytes) kept.file t i in
     held.is ∙ ap (λ (l : List ℕ). Some l) (cut_sure (record { synced = []; unsynced = part.bytes }) held.bytes held.cut)

@@ -205,3 +205,22 @@ module _ {start : Story} {q : Change → Type 0} {P : State → Tree → Type 0}
 -- a wider kind, and less of the images
 pub went_wider : {start : Story} {told : Option Story} {I : State → Type 0} (q r : Change → Type 0) (P R : State → Tree → Type 0) → ((c : Change) → q c → r c) → ((s : State) (t : Tree) → P s t → R s t) → Went start told q P I → Went start told r R I
 went_wider q r P R f h w = record { story = w.story; tells = w.tells; goes = goes_weaker q r P R f h w.goes; now = w.now }
+
+-- ---- what holds at the start of a run, and is kept by each kind of change in it, holds all along it
+
+module _ {q : Change → Type 0} {P : State → Tree → Type 0} (R : State → Tree → Type 0) (I : State → Type 0) (keep : (s : State) (c : Change) → q c → I s → I (after s c)) (shows : (s : State) (t : Tree) → I s → IsImage s t → P s t → R s t) where
+  along_kept : (cs : List Change) (s : State) → Each q cs → I s → Along P s cs → Along R s cs
+  along_kept [] s each i a = record { each = λ t image. shows s t i image (a.each t image) }
+  along_kept (c ∷ cs) s each i a = (record { each = λ t image. shows s t i image (a.0.each t image) }, along_kept cs (after s c) each.1 (keep s c each.0 i) a.1)
+
+  kept_after : (cs : List Change) (s : State) → Each q cs → I s → I (after_all cs s)
+  kept_after [] s each i = i
+  kept_after (c ∷ cs) s each i = kept_after cs (after s c) each.1 (keep s c each.0 i)
+
+  pub went_kept : {start : Story} {told : Option Story} (J : State → Type 0) → I (state_of start) → Went start told q P J → Went start told q R (λ s. J s × I s)
+  went_kept {start = start} J i w = record {
+    story = w.story;
+    tells = w.tells;
+    goes = record { more = w.goes.more; grows = w.goes.grows; kind = w.goes.kind; along = along_kept w.goes.more (state_of start) w.goes.kind i w.goes.along };
+    now = (w.now, subst I (sym (goes_state w.goes)) (kept_after w.goes.more (state_of start) w.goes.kind i));
+  }

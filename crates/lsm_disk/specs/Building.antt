@@ -50,7 +50,8 @@ IsWithin folder first Idle = Unit {0}
 
 -- The names are as some crash left them when the folder was begun, or have no `CURRENT` in it.
 abbrev pub LacksCurrent : State → List ℕ → Names → Type 0
-LacksCurrent start folder names = ((k : ℕ) × (names ≡ all_named (take k start.pending) start.durable)) ⊎ (map.get names (path_in folder Current) ≡ None)
+LacksCurrent start folder names = ((k : ℕ) × (names ≡ all_named (take k start.pending) start.durable))
+    ⊎ (map.get names (path_in folder Current) ≡ None)
 
 -- each image on the way has the folder as it was, or without `CURRENT`
 abbrev pub HasNoCurrent : State → List ℕ → State → Tree → Type 0
@@ -152,19 +153,23 @@ Begins folder start result s = LeftAs (s ≡ start) (IsBuilding start (just_begu
 
 -- the new file is empty and in hand
 abbrev pub Files : {T : Type 0} → State → Begun → List Part → FileName → Result T DestError → State → Type 0
-Files start begun parts name result s = LeftAs (IsBuilding start begun parts s) (IsWriting start (with_name name begun) parts name new_file s) result
+Files start begun parts name result s = LeftAs (IsBuilding start begun parts s)
+    (IsWriting start (with_name name begun) parts name new_file s) result
 
 -- The file in hand has the bytes at its end. A fault has added a front of them.
 abbrev pub Fills : {T : Type 0} → State → Begun → List Part → FileName → FileState → List ℕ → Result T DestError → State → Type 0
 Fills start begun parts name file bytes (Ok value) s = IsWriting start begun parts name (longer bytes file) s
-Fills start begun parts name file bytes (Err e) s = RefusedAs (IsWriting start begun parts name file s) ((n : ℕ) × IsWriting start begun parts name (longer (take n bytes) file) s) e
+Fills start begun parts name file bytes (Err e) s = RefusedAs (IsWriting start begun parts name file s)
+    ((n : ℕ) × IsWriting start begun parts name (longer (take n bytes) file) s) e
 
 -- the file in hand is a part
 abbrev pub Seals : {T : Type 0} → State → Begun → List Part → FileName → FileState → Result T DestError → State → Type 0
 Seals start begun parts name file result s =
-    LeftAs (IsWriting start begun parts name file s) (IsBuilding start begun (parts ++ (record { name = name; bytes = bytes_of file }) ∷ []) s) result
+    LeftAs (IsWriting start begun parts name file s) (IsBuilding start begun
+    (parts ++ (record { name = name; bytes = bytes_of file }) ∷ []) s) result
 
--- The folder is whole for good. A refusal leaves no `CURRENT`; but of a fault only the images on the way say what it left.
-abbrev pub Finishes : {T : Type 0} → State → List ℕ → List Part → Result T DestError → State → Type 0
-Finishes start folder whole (Ok value) s = IsBuilt folder whole s
-Finishes start folder whole (Err e) s = RefusedAs (IsUnfinished start folder s) (Unit {0}) e
+-- The folder is whole for good. Want of memory leaves it as it was, and it can be ended again; but of a fault only the
+-- images on the way say what it left.
+abbrev pub Finishes : {T : Type 0} → State → Begun → List Part → List ℕ → Result T DestError → State → Type 0
+Finishes start begun parts current (Ok value) s = IsBuilt begun.folder (with_current current parts) s
+Finishes start begun parts current (Err e) s = RefusedAs (IsBuilding start begun parts s) (Unit {0}) e

@@ -58,15 +58,17 @@ part_calls call None name = []
 part_calls call (Some begun) None = []
 part_calls call (Some begun) (Some name) = halt_at call (path_in begun.folder name) ∷ []
 
--- the names are synced, `CURRENT` is written under its temporary name, and renamed
+-- The names are synced, `CURRENT` is written under its temporary name, and renamed; where memory is wanted, the temporary
+-- name is taken away again.
 abbrev pub finish_calls : Option Begun → List Halt
 finish_calls None = []
 finish_calls (Some begun) =
     let temporary_path = path_in begun.folder temporary in
     let current_path = path_in begun.folder Current in
     halt_at call.SyncNames begun.folder
-    ∷ halt_at call.Create temporary_path ∷ halt_at call.Append temporary_path ∷ halt_at call.Sync temporary_path ∷ halt_at call.SyncNames temporary_path
-    ∷ halt_at call.Rename current_path ∷ halt_at call.SyncNames current_path ∷ []
+    ∷ halt_at call.Create temporary_path ∷ halt_at call.Append temporary_path ∷ halt_at call.Sync temporary_path
+    ∷ halt_at call.SyncNames temporary_path
+    ∷ halt_at call.Rename current_path ∷ halt_at call.SyncNames current_path ∷ halt_at call.Unlink temporary_path ∷ []
 
 -- ---- the halting call
 
@@ -81,7 +83,8 @@ HaltsAt calls old new (Ok value) = (old.halt ≡ None) × (new.halt ≡ None)
 HaltsAt calls old new (Err Fault) = (old.halt ≡ None) × IsHaltedAt calls new.halt
 HaltsAt calls old new (Err (Halted first)) = (old.halt ≡ Some first) × (new ≡ old)
 HaltsAt calls old new (Err Exists) = (old.halt ≡ None) × (new.halt ≡ None)
-HaltsAt calls old new (Err (Changed call path)) = (old.halt ≡ None) × (new.halt ≡ Some (halt_at call path)) × IsAmong (halt_at call path) calls
+HaltsAt calls old new (Err (Changed call path)) = (old.halt ≡ None) × (new.halt ≡ Some (halt_at call path))
+    × IsAmong (halt_at call path) calls
 HaltsAt calls old new (Err NoMemory) = (old.halt ≡ None) × (new.halt ≡ None)
 
 -- ---- the folder and the file in hand

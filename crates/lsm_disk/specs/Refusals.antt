@@ -20,7 +20,8 @@ no_folder path s = if is_folder (names_now s) path then None else Some NotThere
 
 -- the folder of a new name has to be there, and the name has to be free
 abbrev pub no_room_in : Names → List ℕ → Option DiskError
-no_room_in names path = if is_folder names (parent_of path) then (if is_some (stands names path) then Some Exists else None) else Some NotThere
+no_room_in names path = if is_folder names (parent_of path) then (if is_some (stands names path) then Some Exists else None)
+    else Some NotThere
 
 abbrev pub no_room : List ℕ → State → Option DiskError
 no_room path s = no_room_in (names_now s) path
@@ -44,7 +45,8 @@ no_view path len s = or_else (no_file path s) (short_of len (bytes_of (file_now 
 -- A file may take a file's place, but not a folder's. A folder goes to a free name, and not into itself.
 abbrev pub no_move_in : List ℕ → List ℕ → Names → Option Node → Option DiskError
 no_move_in from to names None = Some NotThere
-no_move_in from to names (Some (File_node id)) = if is_folder names (parent_of to) then (if is_folder names to then Some Exists else None) else Some NotThere
+no_move_in from to names (Some (File_node id)) = if is_folder names (parent_of to)
+    then (if is_folder names to then Some Exists else None) else Some NotThere
 no_move_in from to names (Some Folder_node) = if is_in from (parent_of to) then Some NotThere else no_room_in names to
 
 abbrev pub no_rename : List ℕ → List ℕ → State → Option DiskError

@@ -47,7 +47,8 @@ pub trait Dest {
         ensures leaves { Leaves (Some (just_begun dir.now)) None (seen self.old) (seen self.new) result }
         ensures taken { IsTakenExactly dir.now (seen self.old) result }
         ensures went { (story : Story) → (seen self.old).disk.told ≡ Some story
-            → Went story (seen self.new).disk.told (IsWithin dir.now (length (state_of story).files)) (MayHaveFolder (state_of story) dir.now) (Begins dir.now (state_of story) result) }
+            → Went story (seen self.new).disk.told (IsWithin dir.now (length (state_of story).files))
+            (MayHaveFolder (state_of story) dir.now) (Begins dir.now (state_of story) result) }
         ensures cause { HasDestCause (seen self.old).disk (seen self.new).disk result }
         ensures more { (first : Self) → leads first self.old → leads first self.new };
 
@@ -58,11 +59,14 @@ pub trait Dest {
         requires part { IsPartName name.now }
         requires new { IfSome (seen self.old).begun (λ begun. All (λ other. name.now ≢ other) begun.names) }
         ensures halt { HaltsAt (part_calls calls.Create (seen self.old).begun (Some name.now)) (seen self.old) (seen self.new) result }
-        ensures leaves { Leaves (option_map (with_name name.now) (seen self.old).begun) (Some name.now) (seen self.old) (seen self.new) result }
+        ensures leaves { Leaves (option_map (with_name name.now) (seen self.old).begun) (Some name.now) (seen self.old)
+            (seen self.new) result }
         ensures taken { NeverExists result }
-        ensures went { (start : State) (story : Story) (begun : Begun) (parts : List Part) → (seen self.old).disk.told ≡ Some story → (seen self.old).begun ≡ Some begun
+        ensures went { (start : State) (story : Story) (begun : Begun) (parts : List Part)
+            → (seen self.old).disk.told ≡ Some story → (seen self.old).begun ≡ Some begun
             → IsBuilding start begun parts (state_of story)
-            → Went story (seen self.new).disk.told (IsWithin begun.folder (length start.files)) (HasNoCurrent start begun.folder) (Files start begun parts name.now result) }
+            → Went story (seen self.new).disk.told (IsWithin begun.folder (length start.files))
+            (HasNoCurrent start begun.folder) (Files start begun parts name.now result) }
         ensures cause { HasDestCause (seen self.old).disk (seen self.new).disk result }
         ensures more { (first : Self) → leads first self.old → leads first self.new };
 
@@ -73,9 +77,11 @@ pub trait Dest {
         ensures halt { HaltsAt (part_calls calls.Append (seen self.old).begun (seen self.old).hand) (seen self.old) (seen self.new) result }
         ensures leaves { Leaves (seen self.old).begun (seen self.old).hand (seen self.old) (seen self.new) result }
         ensures taken { NeverExists result }
-        ensures went { (start : State) (story : Story) (begun : Begun) (parts : List Part) (name : FileName) (file : FileState) → (seen self.old).disk.told ≡ Some story
+        ensures went { (start : State) (story : Story) (begun : Begun) (parts : List Part) (name : FileName) (file : FileState)
+            → (seen self.old).disk.told ≡ Some story
             → (seen self.old).begun ≡ Some begun → (seen self.old).hand ≡ Some name → IsWriting start begun parts name file (state_of story)
-            → Went story (seen self.new).disk.told (IsWithin begun.folder (length start.files)) (HasNoCurrent start begun.folder) (Fills start begun parts name file bytes.now result) }
+            → Went story (seen self.new).disk.told (IsWithin begun.folder (length start.files))
+            (HasNoCurrent start begun.folder) (Fills start begun parts name file bytes.now result) }
         ensures cause { HasDestCause (seen self.old).disk (seen self.new).disk result }
         ensures more { (first : Self) → leads first self.old → leads first self.new };
 
@@ -87,24 +93,29 @@ pub trait Dest {
         ensures leaves { Leaves (seen self.old).begun None (seen self.old) (seen self.new) result }
         ensures taken { NeverExists result }
         ensures memory { NeedsNoMemory result }
-        ensures went { (start : State) (story : Story) (begun : Begun) (parts : List Part) (name : FileName) (file : FileState) → (seen self.old).disk.told ≡ Some story
+        ensures went { (start : State) (story : Story) (begun : Begun) (parts : List Part) (name : FileName) (file : FileState)
+            → (seen self.old).disk.told ≡ Some story
             → (seen self.old).begun ≡ Some begun → (seen self.old).hand ≡ Some name → IsWriting start begun parts name file (state_of story)
-            → Went story (seen self.new).disk.told (IsWithin begun.folder (length start.files)) (HasNoCurrent start begun.folder) (Seals start begun parts name file result) }
+            → Went story (seen self.new).disk.told (IsWithin begun.folder (length start.files))
+            (HasNoCurrent start begun.folder) (Seals start begun parts name file result) }
         ensures cause { HasDestCause (seen self.old).disk (seen self.new).disk result }
         ensures more { (first : Self) → leads first self.old → leads first self.new };
 
     /// Adds `CURRENT` with these bytes, makes the folder durable, and ends it. `CURRENT` is
-    /// written under the name `000001.dbtmp` and renamed.
+    /// written under the name `000001.dbtmp` and renamed. Where memory is wanted, that name is
+    /// taken away again, and the call may be made once more.
     fn finish(&mut self, current: &[u8]) -> Result<(), DestError>
         requires begun { IsSome (seen self.old).begun }
         requires free { (seen self.old).hand ≡ None }
         ensures halt { HaltsAt (finish_calls (seen self.old).begun) (seen self.old) (seen self.new) result }
         ensures leaves { Leaves None None (seen self.old) (seen self.new) result }
         ensures taken { NeverExists result }
-        ensures went { (start : State) (story : Story) (begun : Begun) (parts : List Part) → (seen self.old).disk.told ≡ Some story → (seen self.old).begun ≡ Some begun
+        ensures went { (start : State) (story : Story) (begun : Begun) (parts : List Part)
+            → (seen self.old).disk.told ≡ Some story → (seen self.old).begun ≡ Some begun
             → IsBuilding start begun parts (state_of story)
-            → Went story (seen self.new).disk.told (IsWithin begun.folder (length start.files)) (HasNoneOrAll start begun.folder (with_current current.now parts))
-            (Finishes start begun.folder (with_current current.now parts) result) }
+            → Went story (seen self.new).disk.told (IsWithin begun.folder (length start.files))
+            (HasNoneOrAll start begun.folder (with_current current.now parts))
+            (Finishes start begun parts current.now result) }
         ensures cause { HasDestCause (seen self.old).disk (seen self.new).disk result }
         ensures more { (first : Self) → leads first self.old → leads first self.new };
 

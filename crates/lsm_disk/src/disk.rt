@@ -30,7 +30,8 @@ pub trait Disk {
 
     /// What stands under a name.
     fn kind(&mut self, path: &Path) -> Result<Option<Kind>, DiskError>
-        ensures kind { IfOk result (λ kind. IfSome (seen self.old).told (λ story. kind ≡ kind_of (stands (names_now (state_of story)) path.now))) }
+        ensures kind { IfOk result (λ kind. IfSome (seen self.old).told
+            (λ story. kind ≡ kind_of (stands (names_now (state_of story)) path.now))) }
         ensures did { (seen self.new).told ≡ (seen self.old).told }
         ensures answer { Answers never (seen self.old) result }
         ensures memory { TakesNoMemory result }
@@ -40,7 +41,8 @@ pub trait Disk {
     /// What stands directly in a folder, in the order of bytes. What isn't spelled as a `Path` is
     /// left out.
     fn list(&mut self, folder: &Path) -> Result<Listing, DiskError>
-        ensures listed { IfOk result (λ entries. IfSome (seen self.old).told (λ story. entries ≡ listing folder.now (names_now (state_of story)))) }
+        ensures listed { IfOk result (λ entries. IfSome (seen self.old).told
+            (λ story. entries ≡ listing folder.now (names_now (state_of story)))) }
         ensures did { (seen self.new).told ≡ (seen self.old).told }
         ensures answer { Answers (no_folder folder.now) (seen self.old) result }
         ensures cause { HasCause (seen self.old) (seen self.new) result }
@@ -48,7 +50,8 @@ pub trait Disk {
 
     /// A file's length in bytes.
     fn size(&mut self, path: &Path) -> Result<u64, DiskError>
-        ensures size { IfOk result (λ size. IfSome (seen self.old).told (λ story. size ≡ length (bytes_of (file_now path.now (state_of story))))) }
+        ensures size { IfOk result (λ size. IfSome (seen self.old).told
+            (λ story. size ≡ length (bytes_of (file_now path.now (state_of story))))) }
         ensures did { (seen self.new).told ≡ (seen self.old).told }
         ensures answer { Answers (no_file path.now) (seen self.old) result }
         ensures memory { TakesNoMemory result }

@@ -24,7 +24,8 @@ pub fn kept_file_everywhere()
 
 /// A change that doesn't touch a kept file keeps it.
 pub fn spared_file_kept()
-    ensures { (s : State) (path : List ℕ) (id : ℕ) (f : FileState) (c : Change) → IsKeptFile s path id f → Spares path id c → IsKeptFile (after s c) path id f }
+    ensures { (s : State) (path : List ℕ) (id : ℕ) (f : FileState) (c : Change) → IsKeptFile s path id f → Spares path id c
+        → IsKeptFile (after s c) path id f }
 {}
 
 /// A story that is longer by one change leads to the state after it.
@@ -39,30 +40,38 @@ pub fn bytes_after_created()
 
 /// An append adds its bytes at the end.
 pub fn bytes_after_appended()
-    ensures { (s : State) (path more old : List ℕ) → bytes_at (tree_now s) path ≡ Some old → bytes_at (tree_now (after s (appended path more s))) path ≡ Some (old ++ more) }
+    ensures { (s : State) (path more old : List ℕ) → bytes_at (tree_now s) path ≡ Some old
+        → bytes_at (tree_now (after s (appended path more s))) path ≡ Some (old ++ more) }
 {}
 
 /// The other files keep their bytes: where a file or a folder is made under another name, and
 /// where another file is appended to.
 pub fn bytes_of_others()
-    ensures created { (s : State) (path other old : List ℕ) → path ≢ other → bytes_at (tree_now s) path ≡ Some old → bytes_at (tree_now (after s (Created other))) path ≡ Some old }
-    ensures folder_made { (s : State) (path other : List ℕ) → path ≢ other → bytes_at (tree_now (after s (folder_made other s))) path ≡ bytes_at (tree_now s) path }
-    ensures appended { (s : State) (path other more : List ℕ) → file_at s path ≢ file_at s other → bytes_at (tree_now (after s (appended other more s))) path ≡ bytes_at (tree_now s) path }
+    ensures created { (s : State) (path other old : List ℕ) → path ≢ other → bytes_at (tree_now s) path ≡ Some old
+        → bytes_at (tree_now (after s (Created other))) path ≡ Some old }
+    ensures folder_made { (s : State) (path other : List ℕ) → path ≢ other
+        → bytes_at (tree_now (after s (folder_made other s))) path ≡ bytes_at (tree_now s) path }
+    ensures appended { (s : State) (path other more : List ℕ) → file_at s path ≢ file_at s other
+        → bytes_at (tree_now (after s (appended other more s))) path ≡ bytes_at (tree_now s) path }
 {}
 
 /// What was made stands, and the other names lead where they led.
 pub fn made_names_stand()
     ensures folder { (s : State) (path : List ℕ) → stands (names_now (after s (folder_made path s))) path ≡ Some Folder_node }
     ensures file { (s : State) (path : List ℕ) → map.get (names_now (after s (Created path))) path ≡ Some (File_node (length s.files)) }
-    ensures past_folder { (s : State) (path other : List ℕ) → path ≢ other → stands (names_now (after s (folder_made other s))) path ≡ stands (names_now s) path }
-    ensures past_file { (s : State) (path other : List ℕ) → path ≢ other → stands (names_now (after s (Created other))) path ≡ stands (names_now s) path }
+    ensures past_folder { (s : State) (path other : List ℕ) → path ≢ other
+        → stands (names_now (after s (folder_made other s))) path ≡ stands (names_now s) path }
+    ensures past_file { (s : State) (path other : List ℕ) → path ≢ other
+        → stands (names_now (after s (Created other))) path ≡ stands (names_now s) path }
 {}
 
 /// On a lawful disk nothing stands inside a folder that isn't there, so each name in a folder
 /// that was just made is free.
 pub fn free_below_free()
-    ensures absent { (s : State) (dir rest : List ℕ) → IsLawful s → stands (names_now s) dir ≡ None → stands (names_now s) (dir ++ 47 ∷ rest) ≡ None }
-    ensures made { (s : State) (dir rest : List ℕ) → IsLawful s → no_room dir s ≡ None → stands (names_now (after s (folder_made dir s))) (dir ++ 47 ∷ rest) ≡ None }
+    ensures absent { (s : State) (dir rest : List ℕ) → IsLawful s → stands (names_now s) dir ≡ None
+        → stands (names_now s) (dir ++ 47 ∷ rest) ≡ None }
+    ensures made { (s : State) (dir rest : List ℕ) → IsLawful s → no_room dir s ≡ None
+        → stands (names_now (after s (folder_made dir s))) (dir ++ 47 ∷ rest) ≡ None }
 {}
 
 /// A disk stays lawful where a file or a folder is made, and under each change that names nothing.
@@ -86,30 +95,38 @@ pub fn lawful_after_calls()
 /// A sync makes a file whole in each image, and a sync of names makes its name sure: a new file
 /// that was made and whose names were synced is kept, and its bytes are sure once it was synced.
 pub fn kept_after_syncs()
-    ensures created { (s : State) (path : List ℕ) → IsKeptFile (after (after s (Created path)) (names_synced (after s (Created path)))) path (length s.files) new_file }
-    ensures appended { (s : State) (path : List ℕ) (id : ℕ) (f : FileState) (bytes : List ℕ) → IsKeptFile s path id f → IsKeptFile (after s (appended path bytes s)) path id (longer bytes f) }
-    ensures synced { (s : State) (path : List ℕ) (id : ℕ) (f : FileState) → IsKeptFile s path id f → IsKeptFile (after s (file_synced path s)) path id (sure f) }
-    ensures names_synced { (s : State) (path : List ℕ) (id : ℕ) (f : FileState) → IsKeptFile s path id f → IsKeptFile (after s (names_synced s)) path id f }
+    ensures created { (s : State) (path : List ℕ) → IsKeptFile
+        (after (after s (Created path)) (names_synced (after s (Created path)))) path (length s.files) new_file }
+    ensures appended { (s : State) (path : List ℕ) (id : ℕ) (f : FileState) (bytes : List ℕ) → IsKeptFile s path id f
+        → IsKeptFile (after s (appended path bytes s)) path id (longer bytes f) }
+    ensures synced { (s : State) (path : List ℕ) (id : ℕ) (f : FileState) → IsKeptFile s path id f
+        → IsKeptFile (after s (file_synced path s)) path id (sure f) }
+    ensures names_synced { (s : State) (path : List ℕ) (id : ℕ) (f : FileState) → IsKeptFile s path id f
+        → IsKeptFile (after s (names_synced s)) path id f }
 {}
 
 /// Where a folder moves to a name at and inside which nothing stands, what stood inside it stands
 /// inside the new name.
 pub fn folder_moves_whole()
-    ensures { (names : Names) (from to rest : List ℕ) → ((r : List ℕ) → under [] r ≡ Some r → map.get names (to ++ r) ≡ None) → under [] rest ≡ Some rest
+    ensures { (names : Names) (from to rest : List ℕ) → ((r : List ℕ) → under [] r ≡ Some r → map.get names (to ++ r) ≡ None)
+        → under [] rest ≡ Some rest
         → map.get (renamed from to (Some Folder_node) names) (to ++ rest) ≡ map.get names (from ++ rest) }
 {}
 
 /// What a destination's calls leave of all outside the folder: each other name, and each file
 /// that was there before.
 pub fn building_spares_others()
-    ensures names { (folder path : List ℕ) (first : ℕ) (c : Change) → IsWithin folder first c → is_in folder path ≡ false → SparesName path c }
-    ensures files { (folder path : List ℕ) (first id : ℕ) (c : Change) → IsWithin folder first c → is_in folder path ≡ false → id < first → Spares path id c }
+    ensures names { (folder path : List ℕ) (first : ℕ) (c : Change) → IsWithin folder first c → is_in folder path ≡ false
+        → SparesName path c }
+    ensures files { (folder path : List ℕ) (first id : ℕ) (c : Change) → IsWithin folder first c → is_in folder path ≡ false
+        → id < first → Spares path id c }
 {}
 
 /// A folder whose name was free for good before it was begun has no `CURRENT` until it is whole.
 pub fn begun_folder_lacks_current()
     ensures begun { (start s : State) (folder : List ℕ) (t : Tree) → MayHaveFolder start folder s t → HasNoCurrent start folder s t }
-    ensures free { (start : State) (folder : List ℕ) (names : Names) → IsLawful start → folder ≢ [] → IsKeptName start folder None → LacksCurrent start folder names
+    ensures free { (start : State) (folder : List ℕ) (names : Names) → IsLawful start → folder ≢ []
+        → IsKeptName start folder None → LacksCurrent start folder names
         → map.get names (path_in folder Current) ≡ None }
 {}
 

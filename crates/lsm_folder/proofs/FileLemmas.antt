@@ -17,13 +17,9 @@ use Rattle.lsm_folder.specs.Names.{name_cmp, names_total, names_exact, name_of}
 use Rattle.lsm_folder.specs.Files.{Item, A_file, item_of, item_at, Nothing, Not_a_folder, Stands_with, name_in, with_name, entries_in, files_in, place_by, place_of}
 use Rattle.lsm_folder.proofs.NameLemmas.{name_again, name_only}
 use Rattle.std.proofs.lemmas.Option.{same_Some}
+use Rattle.lsm_rows.proofs.NewestRows.{equal_of}
 
 -- ---- tests of keys
-
-equal_of : (r : Ordering) → is_eq r ≡ true → r ≡ Equal
-equal_of Less e = cc
-equal_of Equal e = refl
-equal_of Greater e = cc
 
 pub same_name : (m n : FileName) → eq_by_cmp name_cmp m n ≡ true → m ≡ n
 same_name m n e = names_exact m n (equal_of (name_cmp m n) e)
@@ -31,7 +27,7 @@ same_name m n e = names_exact m n (equal_of (name_cmp m n) e)
 pub name_itself : (n : FileName) → eq_by_cmp name_cmp n n ≡ true
 name_itself n = ap is_eq (tied_itself names_total n)
 
-alike : (a b : Bool) → (a ≡ true → b ≡ true) → (b ≡ true → a ≡ true) → a ≡ b
+pub alike : (a b : Bool) → (a ≡ true → b ≡ true) → (b ≡ true → a ≡ true) → a ≡ b
 alike true b f g = sym (f refl)
 alike false true f g = g refl
 alike false false f g = refl
@@ -42,11 +38,11 @@ abbrev head_or : List ℕ → ℕ
 head_or [] = 0
 head_or (x ∷ xs) = x
 
-first_is : (b c : ℕ) (rest more : List ℕ) → Some (b ∷ rest) ≡ Some (c ∷ more) → b ≡ c
+pub first_is : (b c : ℕ) (rest more : List ℕ) → Some (b ∷ rest) ≡ Some (c ∷ more) → b ≡ c
 first_is b c rest more e = ap (λ (o : Option (List ℕ)). head_or (unwrap_or o [])) e
 
 -- what follows a folder begins with a slash
-slash_is : (dir path : List ℕ) (c : ℕ) (rest : List ℕ) → under dir path ≡ Some (c ∷ rest) → c ≡ 47
+pub slash_is : (dir path : List ℕ) (c : ℕ) (rest : List ℕ) → under dir path ≡ Some (c ∷ rest) → c ≡ 47
 slash_is [] [] c rest e = cc
 slash_is [] (d ∷ path) c rest e =
     elim (d == 47) as (λ b. (d == 47) ≡ b → cond b (Some (d ∷ path)) None ≡ Some (c ∷ rest) → c ≡ 47) [

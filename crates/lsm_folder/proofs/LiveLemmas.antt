@@ -15,22 +15,18 @@ use Rattle.lsm_names.specs.declared.file_names.FileName.TheVariants.{Log, Table,
 use Rattle.lsm_folder.specs.Names.{name_cmp}
 use Rattle.lsm_folder.specs.Files.{Item, A_file, A_folder, Files, bytes_in, file_at}
 use Rattle.lsm_folder.specs.Reading.{LogText, log_of, live_log, live_logs, said, logs_of}
+use Rattle.lsm_rows.proofs.PairEntries.{both}
 
 -- ---- sorted entries
 
-all_below : (a b : Bool) → T (a && b) → T a × T b
+pub all_below : (a b : Bool) → T (a && b) → T a × T b
 all_below true b h = (tt, h)
 all_below false b h = absurd h
 
-less : (o : Ordering) → T (is_lt o) → o ≡ Less
+pub less : (o : Ordering) → T (is_lt o) → o ≡ Less
 less Less h = refl
 less Equal h = absurd h
 less Greater h = absurd h
-
-equal : (o : Ordering) → is_eq o ≡ true → o ≡ Equal
-equal Less e = cc
-equal Equal e = refl
-equal Greater e = cc
 
 module _ {K X : Type 0} (R : K → K → Ordering) where
   none_below : (q : K) (es : List (K × X)) → T (below_all R q es) → finmap.find R q es ≡ None
@@ -148,10 +144,6 @@ live_below least m ((Manifest n, item) ∷ es) h = live_below least m es h
 live_below least m ((Temp n, item) ∷ es) h = live_below least m es h
 live_below least m ((Current, item) ∷ es) h = live_below least m es h
 
-both : (a b : Bool) → T a → T b → T (a && b)
-both true b p q = q
-both false b p q = p
-
 pub live_sorted : (least : ℕ) (es : List (FileName × Item)) → T (is_sorted name_cmp es) → T (is_sorted nat_cmp (logs_among least es))
 live_sorted least [] h = tt
 live_sorted least ((Log n, A_file bytes) ∷ es) h =
@@ -223,7 +215,7 @@ module _ (least number : ℕ) (live : least ≤ number) (bytes : List ℕ) where
   among [] is = cc
   among (e ∷ es) is = behind es (among es) e.0 e.1 is
 
-a_file : (item : Option Item) (bytes : List ℕ) → bytes_in item ≡ Some bytes → item ≡ Some (A_file bytes)
+pub a_file : (item : Option Item) (bytes : List ℕ) → bytes_in item ≡ Some bytes → item ≡ Some (A_file bytes)
 a_file None bytes is = cc
 a_file (Some (A_file held)) bytes is = cc
 a_file (Some A_folder) bytes is = cc

@@ -21,6 +21,8 @@ use Rattle.lsm_folder.specs.Reading.{◌>>=◌, LogText, with_batch, batches_in,
 use Rattle.lsm_folder.specs.Logs.{outcome}
 use Rattle.lsm_folder.proofs.BatchLemmas.{batch_found, batch_none}
 use Rattle.std.proofs.lemmas.Option.{same_Some}
+use Rattle.lsm_disk.proofs.Paths.{itself}
+use Rattle.lsm_wal.proofs.Once.{head_of, tail_of}
 
 -- ---- what a text says
 
@@ -30,12 +32,6 @@ behind logged rest = record { batches = logged ++ rest.batches; ends = rest.ends
 
 abbrev payload : ℕ × List ℕ → List ℕ
 payload r = r.1
-
-head_of : {A : Type 0} (x y : A) (xs ys : List A) → x ∷ xs ≡ y ∷ ys → x ≡ y
-head_of x y xs ys e = cc
-
-tail_of : {A : Type 0} (x y : A) (xs ys : List A) → x ∷ xs ≡ y ∷ ys → xs ≡ ys
-tail_of x y xs ys e = cc
 
 -- records that begin with these batches
 leads : (rs : List (ℕ × List ℕ)) (end : Ending) (logged : List Logged) → take (length logged) (map payload rs) ≡ map text_of logged → All IsLogged logged
@@ -101,9 +97,6 @@ module _ (expected : ℕ) (text : List ℕ) (batches : List (List Op)) where
 
 -- ---- whether the batches follow on
 
-same_number : (n : ℕ) → (n == n) ≡ true
-same_number n = grind (arith, nat_tests)
-
 other_number : (m n : ℕ) → m ≢ n → (m == n) ≡ false
 other_number m n ne = grind (arith, nat_tests)
 
@@ -114,7 +107,7 @@ follows : (name : FileName) (expected : ℕ) (batches : List (List Op)) → foll
 follows name expected [] = refl
 follows name expected (ops ∷ batches) =
     let rest = follow_on name (expected + length ops) (in_sequence (expected + length ops) batches) in
-    ap (λ (b : Bool). cond b (next_batch ops rest) (Err (Gap name expected expected))) (same_number expected)
+    ap (λ (b : Bool). cond b (next_batch ops rest) (Err (Gap name expected expected))) (itself expected)
     ∙ ap (next_batch ops) (follows name (expected + length ops) batches)
 
 gapped : (name : FileName) (expected : ℕ) (batches : List (List Op)) (next : Logged) (more : List Logged) → next.first ≢ sequence_after expected batches
@@ -123,7 +116,7 @@ gapped name expected [] next more ne =
     ap (λ (b : Bool). cond b (next_batch next.ops (follow_on name (expected + length next.ops) more)) (Err (Gap name expected next.first))) (other_number next.first expected ne)
 gapped name expected (ops ∷ batches) next more ne =
     let rest = follow_on name (expected + length ops) (in_sequence (expected + length ops) batches ++ next ∷ more) in
-    ap (λ (b : Bool). cond b (next_batch ops rest) (Err (Gap name expected expected))) (same_number expected)
+    ap (λ (b : Bool). cond b (next_batch ops rest) (Err (Gap name expected expected))) (itself expected)
     ∙ ap (next_batch ops) (gapped name (expected + length ops) batches next more ne)
 
 -- ---- what becomes of the log

@@ -38,7 +38,7 @@ use Rattle.lsm_folder.proofs.LogLemmas.{read_log}
 abbrev payload : ℕ × List ℕ → List ℕ
 payload r = r.1
 
-edit_again : edit_of (edit_text first_edit) ≡ Some first_edit
+pub edit_again : edit_of (edit_text first_edit) ≡ Some first_edit
 unfolding edit_of
 edit_again = ap (λ (b : Bool). cond b (Some first_edit) None) (same_text (edit_text first_edit))
 
@@ -51,7 +51,7 @@ one_edit name (r ∷ q ∷ rs) is = absurd (no_two (edit_text first_edit) r.1 q.
   no_two : (x y z : List ℕ) (more : List (List ℕ)) → y ∷ z ∷ more ≡ x ∷ [] → ⊥
   no_two x y z more e = cc
 
-first_manifest : (name : FileName) → edits_said name (manifest_text (first_edit ∷ [])) ≡ Ok (first_edit ∷ [])
+pub first_manifest : (name : FileName) → edits_said name (manifest_text (first_edit ∷ [])) ≡ Ok (first_edit ∷ [])
 unfolding edits_said
 first_manifest name =
     let text = manifest_text (first_edit ∷ []) in

@@ -110,7 +110,7 @@ module _ (least : ℕ) (folder : List Held) where
 
 -- ---- what was read of the first entry
 
-none_before : (r : Result (List (List Op)) Refusal) → r ≡ before_batches [] r
+pub none_before : (r : Result (List (List Op)) Refusal) → r ≡ before_batches [] r
 none_before (Err refusal) = refl
 none_before (Ok batches) = refl
 
@@ -163,7 +163,7 @@ module _ (least last : ℕ) (folder : List Held) (batches : List (List Op)) (sma
 
 -- ---- all entries
 
-before_both : (one two : List (List Op)) (rest : Result (List (List Op)) Refusal) → before_batches one (before_batches two rest) ≡ before_batches (one ++ two) rest
+pub before_both : (one two : List (List Op)) (rest : Result (List (List Op)) Refusal) → before_batches one (before_batches two rest) ≡ before_batches (one ++ two) rest
 before_both one two (Err refusal) = refl
 before_both one two (Ok more) = ap Ok (sym (append_assoc one two more))
 

@@ -23,7 +23,7 @@ use Rattle.lsm_frame.proofs.Crash.{log_cut, log_cut_count, log_keeps}
 use Rattle.lsm_wal.specs.Batches.{Logged, text_of, IsLogged, wal_text, in_sequence}
 use Rattle.lsm_wal.specs.Reading.{At_end, IsReading, open_end, ReadsToFront}
 use Rattle.lsm_wal.proofs.Texts.{sequence_take, sequence_length}
-use Rattle.lsm_wal.proofs.Fronts.{whole_reads}
+use Rattle.lsm_wal.proofs.Fronts.{whole_reads, as_open}
 use Rattle.lsm_folder.specs.declared.refusals.Refusal.{Refusal}
 use Rattle.lsm_folder.specs.declared.refusals.Refusal.TheVariants.{NoFolder, NoCurrent, Malformed}
 use Rattle.lsm_folder.specs.Files.{Item, A_file, A_folder, Files, Place, Nothing, Not_a_folder, Stands_with, bytes_in, file_at}
@@ -112,12 +112,6 @@ pub new_stands : (files : Files) → HasOneLog files [] → Stands files finmap.
 new_stands files has = stands_for files [] has [] None (whole_reads 1 [] (All-nil IsLogged))
 
 -- ---- a log that is cut
-
-as_open : (end : Ending) → IsOpen end → (torn : Option ℕ) × (end ≡ open_end torn)
-as_open ending.End open_ = (None, refl)
-as_open (ending.Torn place) open_ = (Some place, refl)
-as_open (ending.Damaged place kept found) open_ = absurd open_
-as_open (ending.Malformed place) open_ = absurd open_
 
 module _ (accepted : List (List Op)) (n : ℕ) where
   abbrev logged : List Logged

@@ -10,7 +10,7 @@ use Rattle.lsm_folder.specs.Files.{Item, Files, item_of, bytes_in, files_in}
 use Rattle.lsm_folder.specs.Needed.{HasOneLog, HasOneLogAt}
 use Rattle.lsm_folder.proofs.FileLemmas.{files_are, file_is, file_names}
 
-no_file : (contents : List (List ℕ)) (o : Option Node) → id_of o ≡ None → bytes_in (option_map (item_of contents) o) ≡ None
+pub no_file : (contents : List (List ℕ)) (o : Option Node) → id_of o ≡ None → bytes_in (option_map (item_of contents) o) ≡ None
 no_file contents None is = refl
 no_file contents (Some Folder_node) is = refl
 no_file contents (Some (File_node id)) is = cc

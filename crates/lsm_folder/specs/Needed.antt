@@ -42,7 +42,8 @@ log_number files = do
 -- else it holds doesn't matter.
 pub record HasNeeded (files others : Files) : Type 0 where
   pub same : (name : FileName) → Contains (needed files) name → file_at others name ≡ file_at files name
-  pub logs : (least number : ℕ) → log_number files ≡ Ok least → least ≤ number → Contains (needed files) (Log number) ⊎ (file_at others (Log number) ≡ None)
+  pub logs : (least number : ℕ) → log_number files ≡ Ok least → least ≤ number
+      → Contains (needed files) (Log number) ⊎ (file_at others (Log number) ≡ None)
 
 -- CURRENT names MANIFEST-000001, which has a new store's edit; and from log 2 on there is one log, of this text.
 pub record HasOneLog (files : Files) (text : List ℕ) : Type 0 where

@@ -63,7 +63,8 @@ abbrev pub before_batches : List (List Op) → Result (List (List Op)) Refusal �
 before_batches batches rest = rest >>= λ (more : List (List Op)). Ok (batches ++ more)
 
 -- behind a first sequence these batches were read, and then that is still to be read
-pub record HaveRead (first : ℕ) (read : Result (List (List Op)) Refusal) (rest : ℕ → Result (List (List Op)) Refusal) (before after : List (List Op)) (last : ℕ) : Type 0 where
+pub record HaveRead (first : ℕ) (read : Result (List (List Op)) Refusal) (rest : ℕ → Result (List (List Op)) Refusal)
+    (before after : List (List Op)) (last : ℕ) : Type 0 where
   pub more : List (List Op)
   pub is : read ≡ before_batches more (rest (last + 1))
   pub added : after ≡ before ++ more

@@ -178,7 +178,10 @@ pub record AllRows : Type 0 where
 unfoldable pub rows_in : Texts → Result AllRows Refusal
 rows_in texts = do
   batches ← all_batches ((version_of texts.edits).last + 1) (finmap.entries texts.logs)
-  Ok (record { sequence = sequence_after (version_of texts.edits).last batches; rows = rows_of ((version_of texts.edits).last + 1) batches })
+  Ok (record {
+    sequence = sequence_after (version_of texts.edits).last batches;
+    rows = rows_of ((version_of texts.edits).last + 1) batches;
+  })
 
 -- what texts show: the contents that all rows stand for
 abbrev pub read : Texts → Result Shown Refusal

@@ -62,7 +62,8 @@ pub fn places_are_seen()
 /// How a log was read, to its end or to its first trouble, says what becomes of it in a folder.
 #[tactic(auto, using(crate::proofs::LogLemmas::read_log))]
 pub fn a_log_counts_as_it_was_read()
-    ensures { (is_last : Bool) (number expected : ℕ) (text : List ℕ) (batches : List (List Op)) (stop : Stop) → IsReading expected text batches stop
+    ensures { (is_last : Bool) (number expected : ℕ) (text : List ℕ) (batches : List (List Op)) (stop : Stop)
+        → IsReading expected text batches stop
         → batches_of is_last expected number (log_of text) ≡ outcome is_last (Log number) expected batches stop }
 {}
 
@@ -77,7 +78,8 @@ pub fn needed_files_suffice()
 /// A folder with a new store's manifest and one log reads as its log does, to contents or to the log's refusal.
 #[tactic(auto, using(crate::proofs::OneLogLemmas::one_log_reads))]
 pub fn one_log_is_read()
-    ensures { (files : Files) (text : List ℕ) (batches : List (List Op)) (stop : Stop) → HasOneLog files text → IsReading 1 text batches stop
+    ensures { (files : Files) (text : List ℕ) (batches : List (List Op)) (stop : Stop) → HasOneLog files text
+        → IsReading 1 text batches stop
         → reading (Stands_with files) ≡ shown_of (outcome true (Log 2) 1 batches stop) }
 {}
 

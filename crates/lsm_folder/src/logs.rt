@@ -29,7 +29,8 @@ pub(crate) fn read_logs(
     batches: &mut Batches,
 ) -> Result<u64, PlainError>
     requires { version.last < 2 ^ 56 }
-    ensures read { IfOk result (HaveRead version.last (all_batches (version.last + 1) (logs_in version.log folder.now)) (λ _. Ok []) batches.old batches.new) }
+    ensures read { IfOk result (HaveRead version.last (all_batches (version.last + 1) (logs_in version.log folder.now))
+        (λ _. Ok []) batches.old batches.new) }
     ensures refused { IfErr result (IsRefusedBy (all_batches (version.last + 1) (logs_in version.log folder.now))) }
 {
     let mut last = version.last;
@@ -48,7 +49,8 @@ fn read_entry(
     batches: &mut Batches,
 ) -> Result<u64, PlainError>
     requires { last < 2 ^ 56 }
-    ensures read { IfOk result (HaveRead last (all_batches (last + 1) (logs_in least folder.now)) (λ next. all_batches next (logs_in least (drop 1 folder.now))) batches.old batches.new) }
+    ensures read { IfOk result (HaveRead last (all_batches (last + 1) (logs_in least folder.now))
+        (λ next. all_batches next (logs_in least (drop 1 folder.now))) batches.old batches.new) }
     ensures refused { IfErr result (IsRefusedBy (all_batches (last + 1) (logs_in least folder.now))) }
 {
     let Some((held, later)) = folder.split_first() else {

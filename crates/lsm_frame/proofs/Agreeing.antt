@@ -21,7 +21,7 @@ agrees_new viewed buffer = record {
   read = λ (text : List ℕ) (told : Tells viewed text). record { before = []; count = refl; all = reading_all text };
 }
 
-tells_before : (was now : Viewed) (text : List ℕ) → Stays was now → Tells now text → Tells was text
+pub tells_before : (was now : Viewed) (text : List ℕ) → Stays was now → Tells now text → Tells was text
 tells_before was now text stays told = record { bytes = sym stays.bytes ∙ told.bytes; whole = told.whole ∙ stays.len }
 
 -- a record is found at a place, and the next one is looked for at another

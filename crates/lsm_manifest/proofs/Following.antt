@@ -1,14 +1,12 @@
 -- How a reading goes on by one record.
-use Rattle.std.specs.Prelude.{◌≡◌, ℕ, zero, suc, ◌+◌, List, [], ◌∷◌, ◌++◌, length, take, map, All, slice_get, Option, Some}
+use Rattle.std.specs.Prelude.{◌≡◌, ℕ, suc, ◌+◌, List, [], ◌∷◌, ◌++◌, length, take, map, All, Option}
 use Rattle.std.proofs.Common.{refl, sym, ap, subst, ◌∙◌, arith, length-append}
 use Rattle.std.proofs.lemmas.List.{map-append}
 use Rattle.std.proofs.lemmas.List.Elements.{All-nil, All-push}
-use Rattle.std.proofs.lemmas.Option.{same_Some}
 use Rattle.lsm_io.specs.Causes.{Rose}
-use Rattle.lsm_disk.specs.Viewed.{Viewed}
 use Rattle.lsm_frame.specs.Records.{records_of, front}
 use Rattle.lsm_frame.specs.Reader.{Reader, Tells, Stays, EndsBehind}
-use Rattle.lsm_frame.proofs.Going.{tells_still}
+use Rattle.lsm_frame.proofs.Going.{tells_still, stays_trans}
 use Rattle.lsm_wal.specs.Reading.{open_end}
 use Rattle.lsm_wal.proofs.Once.{slice_map}
 use Rattle.lsm_version.specs.declared.edits.Edit.{Edit}
@@ -20,16 +18,12 @@ use Rattle.lsm_manifest.specs.Reading.{At_end, IsReading, IsTrouble, IsEditAt, I
 use Rattle.lsm_manifest.specs.declared.reading.Step.TheVariants.{More, Over}
 use Rattle.lsm_manifest.specs.declared.why.ManifestWhy.{ManifestWhy}
 use Rattle.lsm_manifest.specs.declared.why.ManifestWhy.TheVariants as why
+use Rattle.lsm_wal.proofs.Following.{take_one_more}
 
 -- texts begin with those of these edits
 pub record Starts (texts : List (List ℕ)) (edits : List Edit) : Type 0 where
   pub are : take (length edits) texts ≡ map edit_text edits
   pub each : All IsEdit edits
-
-take_one_more : (n : ℕ) (texts : List (List ℕ)) (text : List ℕ) → slice_get texts n ≡ Some text → take (suc n) texts ≡ take n texts ++ text ∷ []
-take_one_more n [] text is = cc
-take_one_more zero (t ∷ texts) text is = ap (λ (x : List ℕ). x ∷ []) (same_Some t text is)
-take_one_more (suc n) (t ∷ texts) text is = ap (λ (l : List (List ℕ)). t ∷ l) (take_one_more n texts text is)
 
 starts_none : (texts : List (List ℕ)) → Starts texts []
 starts_none texts = record { are = refl; each = All-nil IsEdit }
@@ -57,9 +51,6 @@ lost_read text edits (why.BadEdit place) starts lost = (edits, record { texts = 
 
 -- ---- by a reader
 
-stays_on : (a b c : Viewed) → Stays a b → Stays b c → Stays a c
-stays_on a b c one two = record { bytes = two.bytes ∙ one.bytes; len = two.len ∙ one.len; faults = omega (arith, one.faults, two.faults) }
-
 -- from the start on the reader gave the records of these edits
 pub record Going (start now : Reader) (edits : List Edit) : Type 0 where
   pub counted : now.given ≡ length edits
@@ -77,14 +68,14 @@ module _ (start now new : Reader) (edits : List Edit) (going : Going start now e
   pub going_more : (edit : Edit) (more : List Edit) → ((text : List ℕ) → Tells now.viewed text → IsNext text now.given (More edit)) → Follows now new (More edit) → more ≡ edits ++ edit ∷ [] → Going start new more
   going_more edit more at follows grown = subst (Going start new) (sym grown) (record {
     counted = follows ∙ ap (λ (n : ℕ). n + 1) going.counted ∙ sym (length-append edits (edit ∷ []));
-    view = stays_on start.viewed now.viewed new.viewed going.view stays;
+    view = stays_trans start.viewed now.viewed new.viewed going.view stays;
     starts = λ text tells.
         let there : IsEditAt text now.given edit = at text (tells_still start.viewed now.viewed text going.view tells) in
         starts_more text edits edit (going.starts text tells) (subst (λ (n : ℕ). IsEditAt text n edit) going.counted there);
   })
 
   pub going_view : Stays start.viewed new.viewed
-  going_view = stays_on start.viewed now.viewed new.viewed going.view stays
+  going_view = stays_trans start.viewed now.viewed new.viewed going.view stays
 
   pub going_rose : Rose now.viewed.faults new.viewed.faults → Rose start.viewed.faults new.viewed.faults
   going_rose rose = omega (arith, rose, going.view.faults)

@@ -18,15 +18,15 @@ use Rattle.lsm_disk.specs.declared.calls.DiskError.{DiskError}
 use Rattle.lsm_disk.specs.declared.calls.DiskError.TheVariants.{Fault, NotThere, Exists, NoLinks, NotEmpty, Short, NoMemory}
 use Rattle.lsm_disk.specs.declared.calls.DiskRefusal.{DiskRefusal}
 use Rattle.lsm_disk.proofs.Named.{name_now}
-use Rattle.lsm_disk.proofs.Runs.{left_cases, went_weaker, went_then, went_wider, went_start}
+use Rattle.lsm_disk.proofs.Runs.{left_cases, went_weaker, went_then, went_wider, went_start, went_kept}
 use Rattle.lsm_publish.specs.Publishing.{Old, StillHas, IsOther, Writes, Switches, IsReady, IsSwitching, IsPublished, SwitchLeft, written}
 use Rattle.lsm_publish.proofs.Olds.{still_spared, still_image, other_new, within}
 use Rattle.lsm_version.specs.declared.edits.Edit.{Edit}
 use Rattle.lsm_manifest.specs.Texts.{IsTaken, manifest_text}
 use Rattle.lsm_manifest.specs.Standing.{Stands}
-use Rattle.lsm_manifest.specs.Installing.{Before, StillBefore, ShowsBefore, IsApart, NamesOldOrNew, Installs, Leaves, CurrentLeft, LeadsNow, Anything, LeadsEither, HasLed, new_calls, current_path, manifest_path, temporary_path, current_text}
+use Rattle.lsm_manifest.specs.Installing.{Before, StillBefore, ShowsBefore, IsApart, NamesOldOrNew, Installs, Leaves, NewLeft, FillLeft, CurrentLeft, LeadsNow, Anything, LeadsEither, HasLed, new_calls, current_path, manifest_path, temporary_path, current_text}
 use Rattle.lsm_manifest.proofs.Names.{new_not_current, temporary_is_not_current, current_apart_new, current_apart_temporary, new_apart_temporary}
-use Rattle.lsm_manifest.proofs.Carrying.{went_carried, writes_spare_old, now_written, switch_spares_old, new_installs, temporary_installs, switch_installs}
+use Rattle.lsm_manifest.proofs.Carrying.{writes_spare_old, now_written, switch_spares_old, new_installs, temporary_installs, switch_installs}
 use Rattle.lsm_manifest.proofs.Filling.{Unknown}
 
 -- each of these calls has this path
@@ -89,22 +89,39 @@ module _ (dir : List ℕ) (number : ℕ) (edit : Edit) (before : Before) (is : I
   abbrev Still : State → Type 0
   Still = StillBefore dir before
 
-  abbrev Left : Result (Unit {0}) DiskRefusal → State → Type 0
-  Left result = Leaves {T = Unit {0}} dir number edit before result
-
   shows_before : (s : State) → Still s → (t : Tree) → IsImage s t → ShowsBefore dir before t
   shows_before s still t i = (still_image cur before.current s still.current t i, still_image before.path before.manifest s still.manifest t i)
-
-  -- no call was made
-  pub left_alone : (r : DiskRefusal) → r.at.path ≢ cur → (s : State) → Still s → Left (Err r) s
-  left_alone r ne s still = (λ other. still.current, λ same. absurd (ne same), still.manifest)
 
   module _ (first : ℕ) where
     abbrev Q : Change → Type 0
     Q = Installs dir number first
 
-    pub untouched : (story : Story) {told : Option Story} (r : DiskRefusal) → r.at.path ≢ cur → told ≡ Some story → Still (state_of story) → Went story told Q P (Left (Err r))
-    untouched story r ne tells still = went_weaker Still (Left (Err r)) (left_alone r ne) (went_start Still tells still (λ s b. record { each = λ t i. inl (shows_before s b t i) }))
+    abbrev Left : Result (Unit {0}) DiskRefusal → State → Type 0
+    Left result = Leaves {T = Unit {0}} dir number first edit before result
+
+    -- a call on another name than `CURRENT` was refused
+    left_before : (r : DiskRefusal) → r.at.path ≢ cur → (s : State) → Still s → NewLeft dir number first edit r s → Left (Err r) s
+    left_before r ne s still left = (λ other. still.current, λ same. absurd (ne same), still.manifest, left)
+
+    left_new : (r : DiskRefusal) → r.at.path ≡ new → (s : State) → FillLeft new first text r.at.call r.why s → Still s → Left (Err r) s
+    left_new r at s left still = left_before r (λ same. new_not_current dir number is (sym at ∙ same)) s still
+        (record { making = λ same. left; made = λ same. absurd (new_apart_temporary dir number is (sym at ∙ same)) })
+
+    left_temporary : (r : DiskRefusal) → r.at.path ≡ temporary → (s : State) → IsFileNow s new first (written text) → Still s → Left (Err r) s
+    left_temporary r at s now still = left_before r (λ same. temporary_is_not_current dir number is (sym at ∙ same)) s still
+        (record { making = λ same. absurd (new_apart_temporary dir number is (sym same ∙ at)); made = λ same. now })
+
+    -- no call was made
+    nothing_made : (r : DiskRefusal) → r.at.call ≡ call.Create → r.why ≡ NoMemory → (s : State) → length s.files ≡ first → FillLeft new first text r.at.call r.why s
+    nothing_made r is_call because s begins =
+        subst (λ (c : DiskCall). FillLeft new first text c r.why s) (sym is_call) (subst (λ (e : DiskError). FillLeft new first text call.Create e s) (sym because) begins)
+
+    pub untouched : (story : Story) {told : Option Story} (r : DiskRefusal) → r.at.path ≡ new → r.at.call ≡ call.Create → r.why ≡ NoMemory → length (state_of story).files ≡ first → told ≡ Some story → Still (state_of story)
+        → Went story told Q P (Left (Err r))
+    untouched story r at is_call because begins tells still =
+        let begun : State → Type 0 = λ s. Still s × (length s.files ≡ first) in
+        went_weaker begun (Left (Err r)) (λ s b. left_new r at s (nothing_made r is_call because s b.1) b.0)
+        (went_start begun tells (still, begins) (λ s b. record { each = λ t i. inl (shows_before s b.0 t i) }))
 
     -- ---- the new manifest
 
@@ -123,10 +140,11 @@ module _ (dir : List ℕ) (number : ℕ) (edit : Edit) (before : Before) (is : I
 
       carried_new : (J : State → Type 0) → Went story o2 (Writes new first) Anything J → Went story o2 Q P (λ s. J s × Still s)
       carried_new J w = went_wider (Writes new first) Q P P (λ c. new_installs dir number first c) (λ s t x. x)
-          (went_carried P Still keep_new (λ s t i image x. inl (shows_before s i t image)) J still w)
+          (went_kept P Still keep_new (λ s t i image x. inl (shows_before s i t image)) J still w)
 
-      pub refused_new : (r : DiskRefusal) → IsAmong r.at (new_calls new) → Went story o2 (Writes new first) Anything Unknown → Went story o2 Q P (Left (Err r))
-      refused_new r at w = went_weaker (λ s. Unknown s × Still s) (Left (Err r)) (λ s p. left_alone r (λ same. new_not_current dir number is (sym (among_new r.at new at) ∙ same)) s p.1) (carried_new Unknown w)
+      pub refused_new : (r : DiskRefusal) → IsAmong r.at (new_calls new) → Went story o2 (Writes new first) Anything (FillLeft new first text r.at.call r.why) → Went story o2 Q P (Left (Err r))
+      refused_new r at w = went_weaker (λ s. FillLeft new first text r.at.call r.why s × Still s) (Left (Err r)) (λ s p. left_new r (among_new r.at new at) s p.0 p.1)
+          (carried_new (FillLeft new first text r.at.call r.why) w)
 
       -- ---- the temporary file
 
@@ -156,11 +174,11 @@ module _ (dir : List ℕ) (number : ℕ) (edit : Edit) (before : Before) (is : I
 
           carried_temporary : (J : State → Type 0) → Went mid o3 (Writes temporary id) Anything J → Went mid o3 Q P (λ s. J s × Made s)
           carried_temporary J w = went_wider (Writes temporary id) Q P P (λ c. temporary_installs dir number first id c (omega (arith, lower))) (λ s t x. x)
-              (went_carried P Made keep_temporary (λ s t i image x. inl (shows_before s i.before_is t image)) J (record { before_is = stays; now = now }) w)
+              (went_kept P Made keep_temporary (λ s t i image x. inl (shows_before s i.before_is t image)) J (record { before_is = stays; now = now }) w)
 
         pub refused_temporary : (r : DiskRefusal) → IsAmong r.at (new_calls temporary) → ((mid : Story) → o2 ≡ Some mid → Went mid o3 (Writes temporary (length (state_of mid).files)) Anything Unknown) → Went story o3 Q P (Left (Err r))
         refused_temporary r at next = went_then made (λ mid here m.
-            went_weaker (λ s. Unknown s × Made s) (Left (Err r)) (λ s p. left_alone r (λ same. temporary_is_not_current dir number is (sym (among_new r.at temporary at) ∙ same)) s p.1.before_is)
+            went_weaker (λ s. Unknown s × Made s) (Left (Err r)) (λ s p. left_temporary r (among_new r.at temporary at) s p.1.now p.1.before_is)
             (carried_temporary mid m.0 m.1 Unknown (next mid here)))
 
         -- both are filled, the temporary file of this number
@@ -194,8 +212,16 @@ module _ (dir : List ℕ) (number : ℕ) (edit : Edit) (before : Before) (is : I
             of_result : (r : Result (Unit {0}) DiskRefusal) → HasLed {T = Unit {0}} temporary cur new before.current k bytes first text r s × Manifest_still s → Left r s
             of_result (Ok value) p = (record { stands = stands s p.0.1; id = k; current = p.0.0 }, p.1)
             of_result (Err r) p = ⊎_elim
-                (λ q. (λ ne. q.1, λ same. absurd (temporary_is_not_current dir number is (sym q.0 ∙ same)), p.1))
-                (λ q. (λ ne. absurd (ne q.0.0), λ same. (stands s q.1, current_left dir number before.current k r.at.call r.why s q.0.1), p.1))
+                (λ q. left_temporary r q.0 s q.2 (record { current = q.1; manifest = p.1 }))
+                (λ q. (
+                  λ ne. absurd (ne q.0.0),
+                  λ same. (stands s q.1, current_left dir number before.current k r.at.call r.why s q.0.1),
+                  p.1,
+                  record {
+                    making = λ same. absurd (new_not_current dir number is (sym same ∙ q.0.0));
+                    made = λ same. absurd (temporary_is_not_current dir number is (sym same ∙ q.0.0));
+                  },
+                ))
                 p.0
 
           pub then_led : ((mid : Story) → o2 ≡ Some mid → Went mid o3 (Writes temporary (length (state_of mid).files)) Anything (λ s. IsFileNow s temporary (length (state_of mid).files) (written bytes)))
@@ -205,5 +231,5 @@ module _ (dir : List ℕ) (number : ℕ) (edit : Edit) (before : Before) (is : I
           then_led next led = went_then (filled next) (λ mid here f.
               went_weaker (λ s. HasLed {T = Unit {0}} temporary cur new before.current f.k bytes first text result s × Manifest_still s) (Left result) (fits f.k)
               (went_wider (Switches temporary cur) Q P P (λ c. switch_installs dir number first c) (λ s t x. x)
-              (went_carried P Manifest_still keep_switch shows_switch (HasLed {T = Unit {0}} temporary cur new before.current f.k bytes first text result) f.is_made.before_is.manifest
+              (went_kept P Manifest_still keep_switch shows_switch (HasLed {T = Unit {0}} temporary cur new before.current f.k bytes first text result) f.is_made.before_is.manifest
               (led mid f.k here f.is_made.before_is.current f.temporary_now f.is_made.now))))

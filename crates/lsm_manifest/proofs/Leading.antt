@@ -1,7 +1,7 @@
 -- What the switch of `CURRENT` leaves, and the sync of names before it.
 use Rattle.std.specs.Prelude.{◌≡◌, ◌⊎◌, ℕ, List, Option, Some, Result, Ok, Err}
 use Rattle.std.proofs.Common.{⊎_elim, inl, inr}
-use Rattle.lsm_disk.specs.Names.{Moved}
+use Rattle.lsm_disk.specs.Names.{File_node, Moved}
 use Rattle.lsm_disk.specs.State.{State, Story, Change, after, state_of, names_synced}
 use Rattle.lsm_disk.specs.Images.{Tree, IsImage}
 use Rattle.lsm_disk.specs.Goes.{Shows, Went}
@@ -10,14 +10,14 @@ use Rattle.lsm_disk.specs.Answers.{Makes, LeftBy, Allowed}
 use Rattle.lsm_disk.specs.Refusals.{never}
 use Rattle.lsm_disk.specs.declared.calls.DiskError.{DiskError}
 use Rattle.lsm_disk.specs.declared.calls.DiskRefusal.{DiskRefusal}
-use Rattle.lsm_disk.proofs.Named.{now_kept}
+use Rattle.lsm_disk.proofs.Named.{name_now, now_kept}
 use Rattle.lsm_disk.proofs.Kept.{kept_spared}
-use Rattle.lsm_disk.proofs.Runs.{went_start, went_weaker, went_ok, went_err, went_then}
+use Rattle.lsm_disk.proofs.Runs.{went_start, went_weaker, went_ok, went_err, went_then, went_kept}
 use Rattle.lsm_publish.specs.Publishing.{Old, StillHas, HasOldOrNew, Switches, IsReady, Switched, written}
 use Rattle.lsm_publish.proofs.Olds.{still_image, still_names, names_switch}
 use Rattle.lsm_publish.proofs.Switching.{whole_in}
 use Rattle.lsm_manifest.specs.Installing.{LeadsEither, HasLed}
-use Rattle.lsm_manifest.proofs.Carrying.{went_carried, switch_spares}
+use Rattle.lsm_manifest.proofs.Carrying.{switch_spares}
 
 module _ (temporary path other : List ℕ) (old : Old) (id k : ℕ) (bytes text : List ℕ) (spares : OpSpares other (Moved temporary path)) (story : Story) where
   abbrev P : State → Tree → Type 0
@@ -68,11 +68,11 @@ module _ (temporary path other : List ℕ) (old : Old) (id k : ℕ) (bytes text 
       after_names makes = went_ok Filled Sure names_synced makes (λ s f. names_switch temporary path s) step_names shows_sure begun
 
       pub refused_names : (r : DiskRefusal) (e : DiskError) → r.at.path ≡ temporary → LeftBy (o2 ≡ o1) (Allowed never o1 × Makes o1 names_synced o2) e → Went story o2 Q P (Led (Err r))
-      refused_names r e at did = went_weaker (λ s. Filled s ⊎ Sure s) (Led (Err r)) (λ s. ⊎_elim (λ f. inl (at, f.0)) (λ w. inl (at, w.0.still)))
+      refused_names r e at did = went_weaker (λ s. Filled s ⊎ Sure s) (Led (Err r)) (λ s. ⊎_elim (λ f. inl (at, f.0, f.2)) (λ w. inl (at, w.0.still, record { named = name_now s other (Some (File_node k)) w.1.named; file = w.1.file })))
           (went_err Filled Sure names_synced never e did (λ s f. names_switch temporary path s) step_names shows_sure begun)
 
       pub then_switch : {o3 : Option Story} (result : Result (Unit {0}) DiskRefusal) → Makes o1 names_synced o2
           → ((mid : Story) → o2 ≡ Some mid → IsReady temporary path old id bytes (state_of mid) → Went mid o3 Q (HasOldOrNew path old bytes) (Switched temporary path old id bytes result))
           → Went story o3 Q P (Led result)
       then_switch result makes next = went_then (after_names makes)
-          (λ mid here w. went_weaker _ (Led result) (fits result) (went_carried P KeptOther keep shows (Switched temporary path old id bytes result) w.1 (next mid here w.0)))
+          (λ mid here w. went_weaker _ (Led result) (fits result) (went_kept P KeptOther keep shows (Switched temporary path old id bytes result) w.1 (next mid here w.0)))

@@ -1,12 +1,12 @@
 -- The paths of a new manifest, of its temporary file and of `CURRENT` are apart.
-use Rattle.std.specs.Prelude.{◌≡◌, ◌≢◌, ℕ, true, false, cond, ◌==◌, nat_le, not, ◌&&◌, List, [], ◌∷◌, ◌++◌, length, Option, Some, None}
+use Rattle.std.specs.Prelude.{◌≡◌, ◌≢◌, ℕ, true, false, cond, ◌==◌, List, [], ◌∷◌, ◌++◌, Option, Some, None}
 use Rattle.std.proofs.Common.{refl, sym, ap, ◌∙◌, append_assoc, arith}
 use Rattle.std.proofs.lemmas.Bool.{and_parts}
 use Rattle.std.proofs.lemmas.Bool.Decides.{nat_tests}
 use Rattle.std.proofs.lemmas.List.{append-nil}
 use Rattle.std.specs.List.{list_all}
 use Rattle.lsm_names.specs.FileNames.{spelled, IsFileName}
-use Rattle.lsm_names.specs.Paths.{is_component_byte, is_component, is_dots}
+use Rattle.lsm_names.specs.Paths.{is_component_byte}
 use Rattle.lsm_names.specs.declared.file_names.FileName.{FileName}
 use Rattle.lsm_names.specs.declared.file_names.FileName.TheVariants.{Manifest, Temp, Current}
 use Rattle.lsm_names.proofs.FileNameLemmas.{spelled_injective, spelled_is_component}
@@ -16,6 +16,7 @@ use Rattle.lsm_disk.specs.Dest.{path_in}
 use Rattle.lsm_disk.proofs.Paths.{under_tail}
 use Rattle.lsm_disk.proofs.Moves.{under_is}
 use Rattle.lsm_manifest.specs.Installing.{IsApart, current_path, manifest_path, temporary_path}
+use Rattle.lsm_names.proofs.PathLemmas.{bytes_of_component}
 
 tail_of : List ℕ → List ℕ
 tail_of [] = []
@@ -27,12 +28,6 @@ same_rest [] a b same = ap tail_of same
 same_rest (c ∷ dir) a b same = same_rest dir a b (ap tail_of same)
 
 -- ---- no slash in a name
-
-component_bytes : (part : List ℕ) → is_component part ≡ true → list_all is_component_byte part ≡ true
-unfolding is_component
-component_bytes part h =
-    let one = and_parts (nat_le 1 (length part) && nat_le (length part) 100 && list_all is_component_byte part) (not (is_dots part)) h in
-    (and_parts (nat_le 1 (length part) && nat_le (length part) 100) (list_all is_component_byte part) one.0).1
 
 byte_in : (xs : List ℕ) (c : ℕ) (rest : List ℕ) → list_all is_component_byte (xs ++ c ∷ rest) ≡ true → is_component_byte c ≡ true
 byte_in [] c rest h = (and_parts (is_component_byte c) (list_all is_component_byte rest) h).0
@@ -53,7 +48,7 @@ module _ (dir : List ℕ) (a b : FileName) (is_a : IsFileName a) (is_b : IsFileN
   clash : (rest : List ℕ) → under [] rest ≡ Some rest → spelled b ≡ spelled a ++ rest → ⊥
   clash [] tail same = apart (spelled_injective a b is_a is_b (sym (same ∙ append-nil (spelled a))))
   clash (c ∷ rest) tail same =
-      let bytes : list_all is_component_byte (spelled a ++ c ∷ rest) ≡ true = sym (ap (list_all is_component_byte) same) ∙ component_bytes (spelled b) (spelled_is_component b is_b) in
+      let bytes : list_all is_component_byte (spelled a ++ c ∷ rest) ≡ true = sym (ap (list_all is_component_byte) same) ∙ bytes_of_component (spelled b) (spelled_is_component b is_b) in
       only_none c rest (no_slash c (byte_in (spelled a) c rest bytes)) tail
 
   -- one is not inside the other

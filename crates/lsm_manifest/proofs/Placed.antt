@@ -1,6 +1,6 @@
 -- The parts of an installing, whose paths and bytes are given by equations.
 use Rattle.std.specs.Prelude.{◌≡◌, ℕ, List, [], ◌∷◌, length, Option, Some, Result, Ok, Err}
-use Rattle.std.proofs.Common.{refl, sym, subst, ◌∙◌}
+use Rattle.std.proofs.Common.{refl, subst}
 use Rattle.lsm_names.specs.FileNames.{IsFileName}
 use Rattle.lsm_names.specs.declared.file_names.FileName.TheVariants.{Manifest}
 use Rattle.lsm_disk.specs.Names.{Moved}
@@ -8,12 +8,16 @@ use Rattle.lsm_disk.specs.State.{Story, state_of}
 use Rattle.lsm_disk.specs.Goes.{Went}
 use Rattle.lsm_disk.specs.Kept.{IsFileNow, OpSpares}
 use Rattle.lsm_disk.specs.Halts.{IsAmong}
+use Rattle.lsm_disk.specs.declared.calls.DiskCall.TheVariants.{Create}
+use Rattle.lsm_disk.specs.declared.calls.DiskError.TheVariants.{NoMemory}
 use Rattle.lsm_disk.specs.declared.calls.DiskRefusal.{DiskRefusal}
+use Rattle.lsm_disk.proofs.Runs.{went_weaker}
 use Rattle.lsm_publish.specs.Publishing.{Old, StillHas, Writes, Switches, written}
 use Rattle.lsm_version.specs.declared.edits.Edit.{Edit}
 use Rattle.lsm_manifest.specs.Texts.{IsTaken, manifest_text}
 use Rattle.lsm_manifest.specs.Installing.{Before, StillBefore, IsApart, NamesOldOrNew, Installs, Leaves, Anything, IsFilled, LeadsEither, HasLed, new_calls, current_path, manifest_path, temporary_path, current_text}
-use Rattle.lsm_manifest.proofs.Names.{manifest_spared, new_not_current}
+use Rattle.lsm_manifest.proofs.Names.{manifest_spared}
+use Rattle.lsm_manifest.proofs.Filling.{Unknown}
 use Rattle.lsm_manifest.proofs.Installed.{untouched, refused_new, refused_temporary, then_led}
 
 -- what the making of a file left
@@ -29,16 +33,16 @@ LedBy o3 o4 result temporary path = (mid : Story) (old : Old) (id k : ℕ) (byte
 
 -- no call was made
 pub exit_none : (dir : List ℕ) (number : ℕ) (edit : Edit) (before : Before) → IsFileName (Manifest number) → IsTaken edit → IsApart dir number before.path → (story : Story) → StillBefore dir before (state_of story)
-    → (r : DiskRefusal) → r.at.path ≡ manifest_path dir number → {told : Option Story} → told ≡ Some story
-    → Went story told (Installs dir number (length (state_of story).files)) (NamesOldOrNew dir number edit before) (Leaves {T = Unit {0}} dir number edit before (Err r))
-exit_none dir number edit before is taken apart story still r at tells =
-    untouched dir number edit before is taken apart (length (state_of story).files) story r (λ same. new_not_current dir number is (sym at ∙ same)) tells still
+    → (r : DiskRefusal) → r.at.path ≡ manifest_path dir number → r.at.call ≡ Create → r.why ≡ NoMemory → {told : Option Story} → told ≡ Some story
+    → Went story told (Installs dir number (length (state_of story).files)) (NamesOldOrNew dir number edit before) (Leaves {T = Unit {0}} dir number (length (state_of story).files) edit before (Err r))
+exit_none dir number edit before is taken apart story still r at is_call because tells =
+    untouched dir number edit before is taken apart (length (state_of story).files) story r at is_call because refl tells still
 
 module _ (dir : List ℕ) (number : ℕ) (edit : Edit) (before : Before) (is : IsFileName (Manifest number)) (taken : IsTaken edit) (apart : IsApart dir number before.path)
     (new temporary path text bytes : List ℕ) (new_is : new ≡ manifest_path dir number) (temporary_is : temporary ≡ temporary_path dir number) (path_is : path ≡ current_path dir)
     (text_is : text ≡ manifest_text (edit ∷ [])) (bytes_is : bytes ≡ current_text number) (story : Story) (still : StillBefore dir before (state_of story)) where
   abbrev Came : Option Story → Result (Unit {0}) DiskRefusal → Type 0
-  Came told result = Went story told (Installs dir number (length (state_of story).files)) (NamesOldOrNew dir number edit before) (Leaves {T = Unit {0}} dir number edit before result)
+  Came told result = Went story told (Installs dir number (length (state_of story).files)) (NamesOldOrNew dir number edit before) (Leaves {T = Unit {0}} dir number (length (state_of story).files) edit before result)
 
   wrote_as : (mid : Story) (told : Option Story) (p q b d : List ℕ) (result : Result (Unit {0}) DiskRefusal) → p ≡ q → b ≡ d → Wrote mid told p b result → Wrote mid told q d result
   wrote_as mid told p q b d result same alike w = subst (λ (x : List ℕ). Wrote mid told q x result) alike (subst (λ (x : List ℕ). Wrote mid told x b result) same w)
@@ -56,7 +60,8 @@ module _ (dir : List ℕ) (number : ℕ) (edit : Edit) (before : Before) (is : I
         pub exit_temporary : (r : DiskRefusal) → IsAmong r.at (new_calls temporary) → ((mid : Story) → o2 ≡ Some mid → Wrote mid o3 temporary bytes (Err r)) → Came o3 (Err r)
         exit_temporary r at next = refused_temporary dir number edit before is taken apart (length (state_of story).files) story o2 still refl made o3 r
             (subst (λ (x : List ℕ). IsAmong r.at (new_calls x)) temporary_is at)
-            (λ mid here. wrote_as mid o3 temporary (temporary_path dir number) bytes (current_text number) (Err r) temporary_is bytes_is (next mid here))
+            (λ mid here. went_weaker (IsFilled {T = Unit {0}} (temporary_path dir number) (length (state_of mid).files) (current_text number) (Err r)) Unknown (λ s left. tt)
+            (wrote_as mid o3 temporary (temporary_path dir number) bytes (current_text number) (Err r) temporary_is bytes_is (next mid here)))
 
         pub exit_led : {o4 : Option Story} (result : Result (Unit {0}) DiskRefusal) → ((mid : Story) → o2 ≡ Some mid → Wrote mid o3 temporary bytes (Ok (tt {0}))) → LedBy o3 o4 result temporary path → Came o4 result
         exit_led {o4} result next led =

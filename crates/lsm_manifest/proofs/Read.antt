@@ -1,12 +1,11 @@
 -- What the texts of manifests read to.
-use Rattle.std.specs.Prelude.{◌≡◌, ℕ, List, [], ◌∷◌, ◌++◌, length, map, All, Option, Some, None}
-use Rattle.std.proofs.Common.{⊎_elim, inl, inr, refl, sym, ap, ◌∙◌, arith}
+use Rattle.std.specs.Prelude.{◌≡◌, ℕ, List, [], ◌∷◌, ◌++◌, length, map, All, None}
+use Rattle.std.proofs.Common.{⊎_elim, inl, inr, sym, ap, ◌∙◌, arith}
 use Rattle.std.proofs.lemmas.List.{take_all, length-map}
 use Rattle.std.proofs.lemmas.List.Elements.{All-weaker, All-push}
 use Rattle.lsm_frame.specs.declared.ending.Ending.{Ending}
-use Rattle.lsm_frame.specs.declared.ending.Ending.TheVariants.{End, Torn, Damaged, Malformed}
+use Rattle.lsm_frame.specs.declared.ending.Ending.TheVariants.{End}
 use Rattle.lsm_frame.specs.Records.{records_of, front, end_of}
-use Rattle.lsm_frame.specs.Growth.{IsOpen}
 use Rattle.lsm_frame.proofs.Appended.{front_log}
 use Rattle.lsm_wal.specs.Reading.{open_end}
 use Rattle.lsm_version.specs.declared.edits.Edit.{Edit}
@@ -15,6 +14,7 @@ use Rattle.lsm_version.specs.Edits.{IsEdit}
 use Rattle.lsm_manifest.specs.Texts.{IsTaken, manifest_text}
 use Rattle.lsm_manifest.specs.Standing.{ReadsEither}
 use Rattle.lsm_manifest.specs.Reading.{At_end, IsReading, ReadsToEither}
+use Rattle.lsm_wal.proofs.Fronts.{as_open}
 
 are_edits : (edits : List Edit) → All IsTaken edits → All IsEdit edits
 are_edits edits each = All-weaker IsTaken IsEdit (λ edit is. is.grammar) edits each
@@ -33,13 +33,6 @@ pub whole_reads : (edits : List Edit) → All IsTaken edits → IsReading (manif
 whole_reads edits each =
     let read = front_log (map edit_text edits) in
     all_read (manifest_text edits) edits End read.0 each read.1
-
--- an open end is none, or a torn record
-as_open : (ending : Ending) → IsOpen ending → (torn : Option ℕ) × (ending ≡ open_end torn)
-as_open End open_ = (None, refl)
-as_open (Torn place) open_ = (Some place, refl)
-as_open (Damaged place kept found) open_ = absurd open_
-as_open (Malformed place) open_ = absurd open_
 
 pub either_reads : (edits : List Edit) (next : Edit) (text : List ℕ) → All IsTaken edits → IsTaken next → ReadsEither edits next text → ReadsToEither edits next text
 either_reads edits next text each taken reads =

@@ -1,20 +1,21 @@
 -- A new manifest, and the switch of `CURRENT` to it.
-use Rattle.std.specs.Prelude.{◌≡◌, ◌≢◌, ◌⊎◌, ℕ, ◌≤◌, List, [], ◌∷◌, ◌++◌, Some, Result, Ok, Err}
+use Rattle.std.specs.Prelude.{◌≡◌, ◌≢◌, ◌⊎◌, ℕ, ◌≤◌, List, [], ◌∷◌, ◌++◌, length, take, Option, Some, Result, Ok, Err}
 use Rattle.lsm_names.specs.FileNames.{spelled}
 use Rattle.lsm_names.specs.declared.file_names.FileName.TheVariants.{Manifest, Temp, Current}
 use Rattle.lsm_disk.specs.Names.{Moved}
-use Rattle.lsm_disk.specs.State.{State, Change, Created, Named, Appended, Synced, Names_synced, Idle}
+use Rattle.lsm_disk.specs.State.{State, Change, Created, Named, Appended, Synced, Names_synced, Idle, new_file, longer}
 use Rattle.lsm_disk.specs.Images.{Tree, bytes_at}
 use Rattle.lsm_disk.specs.Kept.{IsFileNow, IsKeptFile, OpSpares}
 use Rattle.lsm_disk.specs.Dest.{path_in}
 use Rattle.lsm_disk.specs.Halts.{halt_at}
 use Rattle.lsm_disk.specs.Answers.{LeftBy}
+use Rattle.lsm_disk.specs.Refusals.{no_room, or_else}
 use Rattle.lsm_disk.specs.declared.calls.Halt.{Halt}
 use Rattle.lsm_disk.specs.declared.calls.DiskCall.{DiskCall}
 use Rattle.lsm_disk.specs.declared.calls.DiskCall.TheVariants as call
 use Rattle.lsm_disk.specs.declared.calls.DiskError.{DiskError}
 use Rattle.lsm_disk.specs.declared.calls.DiskRefusal.{DiskRefusal}
-use Rattle.lsm_publish.specs.Publishing.{Old, StillHas, ShowsOld, IsMove, IsPublished, Switched, written, write_calls, switch_calls}
+use Rattle.lsm_publish.specs.Publishing.{Old, StillHas, ShowsOld, IsMove, IsPublished, Switched, written, write_calls, switch_calls, no_publishing}
 use Rattle.lsm_version.specs.declared.edits.Edit.{Edit}
 use Rattle.lsm_manifest.specs.Texts.{manifest_text}
 use Rattle.lsm_manifest.specs.Standing.{Stands}
@@ -79,7 +80,14 @@ abbrev pub new_calls : List ℕ → List Halt
 new_calls path = halt_at call.Create path ∷ halt_at call.Append path ∷ halt_at call.Sync path ∷ []
 
 abbrev pub install_calls : List ℕ → ℕ → List Halt
-install_calls dir number = new_calls (manifest_path dir number) ++ write_calls (temporary_path dir number) ++ switch_calls (current_path dir)
+install_calls dir number = new_calls (manifest_path dir number) ++ write_calls (temporary_path dir number)
+    ++ switch_calls (current_path dir)
+
+-- The names of the manifest and of the temporary file have to be free, and a file has to be able to
+-- take the name `CURRENT`.
+abbrev pub no_installing : List ℕ → ℕ → State → Option DiskError
+no_installing dir number s = or_else (no_room (manifest_path dir number) s)
+    (no_publishing (temporary_path dir number) (current_path dir) s)
 
 -- the name leads now to the new file
 abbrev pub LeadsNow : List ℕ → ℕ → State → Type 0
@@ -98,15 +106,35 @@ pub record IsInstalled (dir : List ℕ) (number : ℕ) (edit : Edit) (s : State)
   pub id : ℕ
   pub current : IsPublished (current_path dir) id (current_text number) s
 
--- What an installing leaves. Ok: the new manifest. A refusal of a call on `CURRENT`: the new
--- manifest stands, and `CURRENT` as that call left it. Any other refusal: `CURRENT` has what it
--- had. The manifest of before is as it was throughout.
-abbrev pub Leaves : {T : Type 0} → List ℕ → ℕ → Edit → Before → Result T DiskRefusal → State → Type 0
-Leaves dir number edit before (Ok value) s = IsInstalled dir number edit s × StillHas before.path before.manifest s
-Leaves dir number edit before (Err r) s =
+-- What a refused call left of the making of a file: a fault may have made the change, of an append
+-- a front, and any other refusal has not.
+abbrev pub FillLeft : List ℕ → ℕ → List ℕ → DiskCall → DiskError → State → Type 0
+FillLeft path id bytes call.Create why s = LeftBy (length s.files ≡ id) (IsFileNow s path id new_file) why
+FillLeft path id bytes call.Append why s = LeftBy (IsFileNow s path id new_file)
+    ((n : ℕ) × IsFileNow s path id (longer (take n bytes) new_file)) why
+FillLeft path id bytes call.Sync why s = LeftBy (IsFileNow s path id (longer bytes new_file)) (IsFileNow s path id (written bytes)) why
+FillLeft path id bytes other why s = ⊥
+
+-- What a refused call on the new manifest's name left of the making of its file; at a call on the
+-- temporary file's name the manifest is there, whole and synced.
+pub record NewLeft (dir : List ℕ) (number first : ℕ) (edit : Edit) (r : DiskRefusal) (s : State) : Type 0 where
+  pub making : r.at.path ≡ manifest_path dir number
+      → FillLeft (manifest_path dir number) first (manifest_text (edit ∷ [])) r.at.call r.why s
+  pub made : r.at.path ≡ temporary_path dir number
+      → IsFileNow s (manifest_path dir number) first (written (manifest_text (edit ∷ [])))
+
+-- What an installing leaves, whose first new file has this number. Ok: the new manifest. A refusal
+-- of a call on `CURRENT`: the new manifest stands, and `CURRENT` as that call left it. Any other
+-- refusal: `CURRENT` has what it had, and the new manifest is as far as it came. The manifest of
+-- before is as it was throughout.
+abbrev pub Leaves : {T : Type 0} → List ℕ → ℕ → ℕ → Edit → Before → Result T DiskRefusal → State → Type 0
+Leaves dir number first edit before (Ok value) s = IsInstalled dir number edit s × StillHas before.path before.manifest s
+Leaves dir number first edit before (Err r) s =
     (r.at.path ≢ current_path dir → StillHas (current_path dir) before.current s)
-    × (r.at.path ≡ current_path dir → Stands s (manifest_path dir number) (edit ∷ []) × CurrentLeft dir number before.current r.at.call r.why s)
+    × (r.at.path ≡ current_path dir → Stands s (manifest_path dir number) (edit ∷ [])
+    × CurrentLeft dir number before.current r.at.call r.why s)
     × StillHas before.path before.manifest s
+    × NewLeft dir number first edit r s
 
 -- ---- of the parts
 
@@ -114,10 +142,11 @@ Leaves dir number edit before (Err r) s =
 abbrev pub Anything : State → Tree → Type 0
 Anything s t = Unit {0}
 
--- a new file of these bytes, all of them synced, whose name is not yet sure
+-- A new file of these bytes, all of them synced, whose name is not yet sure; or this call was
+-- refused.
 abbrev pub IsFilled : {T : Type 0} → List ℕ → ℕ → List ℕ → Result T DiskRefusal → State → Type 0
 IsFilled path id bytes (Ok value) s = IsFileNow s path id (written bytes)
-IsFilled path id bytes (Err r) s = Unit {0}
+IsFilled path id bytes (Err r) s = FillLeft path id bytes r.at.call r.why s
 
 -- The name has in the image what it had, or the new bytes, and then the other file is whole.
 abbrev pub LeadsEither : List ℕ → List ℕ → Old → List ℕ → List ℕ → State → Tree → Type 0
@@ -128,4 +157,5 @@ LeadsEither path other old bytes text s t = ShowsOld path old t ⊎ ((bytes_at t
 abbrev pub HasLed : {T : Type 0} → List ℕ → List ℕ → List ℕ → Old → ℕ → List ℕ → ℕ → List ℕ → Result T DiskRefusal → State → Type 0
 HasLed temporary path other old id bytes k text (Ok value) s = IsPublished path id bytes s × IsKeptFile s other k (written text)
 HasLed temporary path other old id bytes k text (Err r) s =
-    ((r.at.path ≡ temporary) × StillHas path old s) ⊎ (Switched temporary path old id bytes (Err r) s × IsKeptFile s other k (written text))
+    ((r.at.path ≡ temporary) × StillHas path old s × IsFileNow s other k (written text))
+    ⊎ (Switched temporary path old id bytes (Err r) s × IsKeptFile s other k (written text))

@@ -9,11 +9,12 @@ ghost use Rattle.lsm_disk.specs.Goes.{Went};
 ghost use Rattle.lsm_disk.specs.Halts.{IsAmong, halt_at};
 ghost use Rattle.lsm_disk.specs.Kept.{IsFileNow, OpSpares};
 ghost use Rattle.lsm_disk.specs.Answers.{HasDiskCause};
+ghost use Rattle.lsm_disk.specs.Refusals.{no_room, no_rename};
 ghost use Rattle.lsm_disk.specs.declared.calls.DiskCall.TheVariants as calls;
-ghost use Rattle.lsm_publish.specs.Publishing.{Old, StillHas, Writes, Switches, switch_calls, written};
+ghost use Rattle.lsm_publish.specs.Publishing.{Old, StillHas, Writes, Switches, AnswersAs, SyncsNeedNoMemory, switch_calls, written};
 ghost use Rattle.lsm_version.specs.declared.edits.Edit.{Edit};
 ghost use Rattle.lsm_manifest.specs.Texts.{IsTaken, manifest_text};
-ghost use Rattle.lsm_manifest.specs.Installing.{Before, StillBefore, IsApart, NamesOldOrNew, Installs, Leaves, Anything, IsFilled, LeadsEither, HasLed, new_calls, install_calls, current_path, manifest_path, temporary_path, current_text};
+ghost use Rattle.lsm_manifest.specs.Installing.{Before, StillBefore, IsApart, NamesOldOrNew, Installs, Leaves, Anything, IsFilled, LeadsEither, HasLed, new_calls, install_calls, no_installing, current_path, manifest_path, temporary_path, current_text};
 
 use crate::writing::{frame_edit, refusal};
 use lsm_bytes::{Bytes, NoMemory};
@@ -74,6 +75,8 @@ fn write_new<D: Disk>(disk: &mut D, path: &Path, bytes: &[u8]) -> Result<(), Dis
         → Went story (D.seen disk.new).told (Writes path.now (length (state_of story).files)) Anything (IsFilled path.now
         (length (state_of story).files) bytes.now result) }
     ensures at { IfErr result (λ r. IsAmong r.at (new_calls path.now)) }
+    ensures answer { AnswersAs (no_room path.now) (D.seen disk.old) result }
+    ensures memory { SyncsNeedNoMemory result }
     ensures cause { HasDiskCause (D.seen disk.old) (D.seen disk.new) result }
 {
     if let Err(why) = disk.create(path) {
@@ -97,6 +100,8 @@ fn lead<D: Disk>(disk: &mut D, temporary: &Path, path: &Path) -> Result<(), Disk
         → Went story (D.seen disk.new).told (Switches temporary.now path.now) (LeadsEither path.now other old bytes text)
         (HasLed temporary.now path.now other old id bytes k text result) }
     ensures at { IfErr result (λ r. IsAmong r.at (halt_at calls.SyncNames temporary.now ∷ switch_calls path.now)) }
+    ensures answer { AnswersAs (no_rename temporary.now path.now) (D.seen disk.old) result }
+    ensures memory { SyncsNeedNoMemory result }
     ensures cause { HasDiskCause (D.seen disk.old) (D.seen disk.new) result }
 {
     if let Err(why) = disk.sync_names() {
@@ -122,10 +127,14 @@ pub(crate) fn install<D: Disk>(
         → text.now ≡ manifest_text (edit ∷ []) → current.now ≡ current_text number
         → StillBefore dir before (state_of story) → IsApart dir number before.path
         → Went story (D.seen disk.new).told (Installs dir number (length (state_of story).files))
-        (NamesOldOrNew dir number edit before) (Leaves dir number edit before result) }
+        (NamesOldOrNew dir number edit before) (Leaves dir number (length (state_of story).files) edit before result) }
     ensures at { (dir : List ℕ) (number : ℕ) → places.now.manifest ≡ manifest_path dir number
         → places.now.temporary ≡ temporary_path dir number
         → places.now.current ≡ current_path dir → IfErr result (λ r. IsAmong r.at (install_calls dir number)) }
+    ensures answer { (dir : List ℕ) (number : ℕ) → IsFileName (names.Manifest number) → places.now.manifest ≡ manifest_path dir number
+        → places.now.temporary ≡ temporary_path dir number
+        → places.now.current ≡ current_path dir → AnswersAs (no_installing dir number) (D.seen disk.old) result }
+    ensures memory { SyncsNeedNoMemory result }
     ensures cause { HasDiskCause (D.seen disk.old) (D.seen disk.new) result }
 {
     if let Err(refused) = write_new(disk, &places.manifest, text) {
@@ -158,9 +167,12 @@ pub(crate) fn write_manifest<D: Disk>(
         → places.now.current ≡ current_path dir
         → StillBefore dir before (state_of story) → IsApart dir number before.path
         → Went story (D.seen disk.new).told (Installs dir number (length (state_of story).files))
-        (NamesOldOrNew dir number edit.now before) (Leaves dir number edit.now before result) }
+        (NamesOldOrNew dir number edit.now before) (Leaves dir number (length (state_of story).files) edit.now before result) }
     ensures at { (dir : List ℕ) → places.now.manifest ≡ manifest_path dir number → places.now.temporary ≡ temporary_path dir number
         → places.now.current ≡ current_path dir → IfErr result (λ r. IsAmong r.at (install_calls dir number)) }
+    ensures answer { (dir : List ℕ) → places.now.manifest ≡ manifest_path dir number → places.now.temporary ≡ temporary_path dir number
+        → places.now.current ≡ current_path dir → AnswersAs (no_installing dir number) (D.seen disk.old) result }
+    ensures memory { SyncsNeedNoMemory result }
     ensures cause { HasDiskCause (D.seen disk.old) (D.seen disk.new) result }
 {
     let Ok(()) = frame_edit(alloc, frame, 0, edit) else {

@@ -11,10 +11,11 @@ ghost use Rattle.lsm_disk.specs.Halts.{IsAmong};
 ghost use Rattle.lsm_disk.specs.Kept.{InFile};
 ghost use Rattle.lsm_disk.specs.Answers.{HasDiskCause};
 ghost use Rattle.lsm_disk.specs.declared.calls.DiskCall.TheVariants as calls;
+ghost use Rattle.lsm_publish.specs.Publishing.{AnswersAs, SyncsNeedNoMemory};
 ghost use Rattle.lsm_wal.specs.Answered.{IsRefusedAt, AnswersAt};
 ghost use Rattle.lsm_manifest.specs.Texts.{IsTaken, manifest_text};
 ghost use Rattle.lsm_manifest.specs.Standing.{Stands, HoldsEither, IsLeft};
-ghost use Rattle.lsm_manifest.specs.Installing.{Before, StillBefore, IsApart, NamesOldOrNew, Installs, Leaves, install_calls, manifest_path};
+ghost use Rattle.lsm_manifest.specs.Installing.{Before, StillBefore, IsApart, NamesOldOrNew, Installs, Leaves, install_calls, no_installing, manifest_path};
 
 use crate::installing::{places_in, write_manifest};
 use crate::writing::{frame_edit, refusal, write_record};
@@ -79,9 +80,12 @@ impl Manifest {
         ensures went { (story : Story) (before : Before) → (D.seen disk.old).told ≡ Some story
             → StillBefore dir.now before (state_of story) → IsApart dir.now number before.path
             → Went story (D.seen disk.new).told (Installs dir.now number (length (state_of story).files))
-            (NamesOldOrNew dir.now number edit.now before) (Leaves dir.now number edit.now before result) }
+            (NamesOldOrNew dir.now number edit.now before)
+            (Leaves dir.now number (length (state_of story).files) edit.now before result) }
 
         ensures at { IfErr result (λ r. IsAmong r.at (install_calls dir.now number)) }
+        ensures answer { AnswersAs (no_installing dir.now number) (D.seen disk.old) result }
+        ensures memory { SyncsNeedNoMemory result }
         ensures cause { HasDiskCause (D.seen disk.old) (D.seen disk.new) result }
     {
         let places = places_in(dir, number);
@@ -125,9 +129,12 @@ impl Manifest {
         ensures went { (story : Story) (before : Before) → (D.seen disk.old).told ≡ Some story
             → StillBefore self.old.dir before (state_of story) → IsApart self.old.dir number before.path
             → Went story (D.seen disk.new).told (Installs self.old.dir number (length (state_of story).files))
-            (NamesOldOrNew self.old.dir number whole.now before) (Leaves self.old.dir number whole.now before result) }
+            (NamesOldOrNew self.old.dir number whole.now before)
+            (Leaves self.old.dir number (length (state_of story).files) whole.now before result) }
 
         ensures at { IfErr result (λ r. IsAmong r.at (install_calls self.old.dir number)) }
+        ensures answer { AnswersAs (no_installing self.old.dir number) (D.seen disk.old) result }
+        ensures memory { SyncsNeedNoMemory result }
         ensures cause { HasDiskCause (D.seen disk.old) (D.seen disk.new) result }
     {
         let places = places_in(&self.dir, number);

@@ -23,8 +23,10 @@ pub record Shown : Type 0 where
 
 abbrev pub coded_disk : Coded Shown
 coded_disk =
-    code_by (Seen × (plan.Shown × (ℕ × (ℕ × List (ℕ × ℕ))))) (coded× coded_seen (coded× plan.coded_plan (coded× coded_ℕ (coded× coded_ℕ (coded_list (coded× coded_ℕ coded_ℕ))))))
-    (λ m. (m.disk, (m.plan, (m.opened, (m.starts, m.reads))))) (λ t. record { disk = t.0; plan = t.1.0; opened = t.1.1.0; starts = t.1.1.1.0; reads = t.1.1.1.1 }) (λ _. refl)
+    code_by (Seen × (plan.Shown × (ℕ × (ℕ × List (ℕ × ℕ)))))
+    (coded× coded_seen (coded× plan.coded_plan (coded× coded_ℕ (coded× coded_ℕ (coded_list (coded× coded_ℕ coded_ℕ))))))
+    (λ m. (m.disk, (m.plan, (m.opened, (m.starts, m.reads)))))
+    (λ t. record { disk = t.0; plan = t.1.0; opened = t.1.1.0; starts = t.1.1.1.0; reads = t.1.1.1.1 }) (λ _. refl)
 
 abbrev pub with_plan : (plan.Shown → plan.Shown) → Shown → Shown
 with_plan change m = record m { plan = change m.plan }
@@ -70,15 +72,18 @@ done_by (Some e) change story = story
 
 -- The change is made exactly where it isn't refused. At the clock's end it may be or not.
 abbrev pub IsDone : (State → Change) → (State → Option DiskError) → Seen → Seen → Type 0
-IsDone change refusal old new = IfSome old.told (λ story. length story.log < 2 ^ 64 - 1 → new.told ≡ Some (done_by (refusal (state_of story)) change story))
+IsDone change refusal old new = IfSome old.told (λ story. length story.log < 2 ^ 64 - 1
+    → new.told ≡ Some (done_by (refusal (state_of story)) change story))
 
 -- Without a change nothing is done. With one it is done, but that want of memory may come before the fault, and then nothing is.
 abbrev pub IsFailed : {T : Type 0} → Option (State → Change) → (State → Option DiskError) → Seen → Seen → Result T DiskError → Type 0
 IsFailed None refusal old new result = (result ≡ Err Fault) × (new.told ≡ old.told)
-IsFailed (Some change) refusal old new result = ((result ≡ Err Fault) × IsDone change refusal old new) ⊎ ((result ≡ Err NoMemory) × (new.told ≡ old.told))
+IsFailed (Some change) refusal old new result = ((result ≡ Err Fault) × IsDone change refusal old new)
+    ⊎ ((result ≡ Err NoMemory) × (new.told ≡ old.told))
 
 -- A call counts, fails where it is planned to and has its effect, and else fails at the clock's end alone.
-pub record Obeys {T : Type 0} (effect : Effect → Option (State → Change)) (refusal : State → Option DiskError) (old new : Shown) (result : Result T DiskError) : Type 0 where
+pub record Obeys {T : Type 0} (effect : Effect → Option (State → Change)) (refusal : State → Option DiskError)
+    (old new : Shown) (result : Result T DiskError) : Type 0 where
   pub counted : new.plan ≡ plan.begun old.plan
   pub fails : (e : Effect) → plan.planned old.plan ≡ Some e → IsFailed (effect e) refusal old.disk new.disk result
   pub works : plan.planned old.plan ≡ None → FaultsAtEnd old.disk result

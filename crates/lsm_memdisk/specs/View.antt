@@ -14,10 +14,20 @@ pub record Shown : Type 0 where
 abbrev pub coded_view : Coded Shown
 coded_view =
     code_by (Viewed × (List ℕ × (ℕ × ℕ))) (coded× coded_viewed (coded× (coded_list coded_ℕ) (coded× coded_ℕ coded_ℕ)))
-    (λ v. (v.viewed, (v.fails, (v.reads, v.starts)))) (λ p. record { viewed = p.0; fails = p.1.0; reads = p.1.1.0; starts = p.1.1.1 }) (λ _. refl)
+    (λ v. (v.viewed, (v.fails, (v.reads, v.starts)))) (λ p. record {
+      viewed = p.0;
+      fails = p.1.0;
+      reads = p.1.1.0;
+      starts = p.1.1.1;
+    }) (λ _. refl)
 
 abbrev pub new_view : List ℕ → List ℕ → Shown
-new_view bytes fails = record { viewed = record { bytes = Some bytes; len = length bytes; faults = 0 }; fails = fails; reads = 0; starts = 0 }
+new_view bytes fails = record {
+  viewed = record { bytes = Some bytes; len = length bytes; faults = 0 };
+  fails = fails;
+  reads = 0;
+  starts = 0;
+}
 
 -- the number of the read that comes next; it stays at its last value
 abbrev pub next_read : Shown → ℕ

@@ -185,7 +185,8 @@ impl Disk for MemDisk {
     ghost seen = { λ m. m.disk };
 
     fn kind(&mut self, path: &Path) -> Result<Option<Kind>, DiskError>
-        ensures kind { IfOk result (λ kind. IfSome self.old.disk.told (λ story. kind ≡ kind_of (stands (names_now (state_of story)) path.now))) }
+        ensures kind { IfOk result (λ kind. IfSome self.old.disk.told
+            (λ story. kind ≡ kind_of (stands (names_now (state_of story)) path.now))) }
         ensures did { self.new.disk.told ≡ self.old.disk.told }
         ensures answer { Answers never self.old.disk result }
         ensures memory { TakesNoMemory result }
@@ -203,7 +204,8 @@ impl Disk for MemDisk {
     }
 
     fn list(&mut self, folder: &Path) -> Result<Listing, DiskError>
-        ensures listed { IfOk result (λ entries. IfSome self.old.disk.told (λ story. entries ≡ listing folder.now (names_now (state_of story)))) }
+        ensures listed { IfOk result (λ entries. IfSome self.old.disk.told
+            (λ story. entries ≡ listing folder.now (names_now (state_of story)))) }
         ensures did { self.new.disk.told ≡ self.old.disk.told }
         ensures answer { Answers (no_folder folder.now) self.old.disk result }
         ensures cause { HasCause self.old.disk self.new.disk result }
@@ -220,7 +222,8 @@ impl Disk for MemDisk {
     }
 
     fn size(&mut self, path: &Path) -> Result<u64, DiskError>
-        ensures size { IfOk result (λ size. IfSome self.old.disk.told (λ story. size ≡ length (bytes_of (file_now path.now (state_of story))))) }
+        ensures size { IfOk result (λ size. IfSome self.old.disk.told
+            (λ story. size ≡ length (bytes_of (file_now path.now (state_of story))))) }
         ensures did { self.new.disk.told ≡ self.old.disk.told }
         ensures answer { Answers (no_file path.now) self.old.disk result }
         ensures memory { TakesNoMemory result }

@@ -19,8 +19,9 @@ use Rattle.lsm_rows.specs.Contents.{newest}
 use Rattle.lsm_memtable.specs.Newest.{has_sequence, is_newest, newest_each}
 use Rattle.lsm_memtable.specs.Kept.{rows_in, heads, AreVersions, AreKept}
 use Rattle.lsm_memtable.proofs.Sorting.{filter_none}
-use Rattle.lsm_memtable.proofs.KeptRows.{Each, Ascend, each_head, each_tail, first_of, rows_newest, tied, older_below}
+use Rattle.lsm_memtable.proofs.KeptRows.{Each, Ascend, each_head, each_tail, first_of, rows_newest, older_below}
 use Rattle.lsm_memtable.proofs.KeyRanges.{keys_cmp}
+use Rattle.lsm_rows.proofs.NewestRows.{tied}
 
 same_eq : (m : ℕ) → nat_eq m m ≡ true
 same_eq m = grind (arith, nat_tests)

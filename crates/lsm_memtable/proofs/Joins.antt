@@ -23,17 +23,15 @@ use Rattle.lsm_memtable.specs.Memory.{IsMemory}
 use Rattle.lsm_memtable.proofs.Sorting.{sorted_nil, filter_all}
 use Rattle.lsm_memtable.proofs.TakingBack.{is_below}
 use Rattle.lsm_memtable.proofs.KeptRows.{keeps_newer}
-use Rattle.lsm_memtable.proofs.Pushes.{all_left, all_right}
-use Rattle.lsm_rows.proofs.ReplayedRows.{sequence-is}
-
-is_below_yes : (n first : ℕ) → n < first → nat_lt n first ≡ true
-is_below_yes n first less = grind (arith, nat_tests)
+use Rattle.lsm_memtable.proofs.Pushes.{all_left}
+use Rattle.lsm_rows.proofs.ReplayedRows.{sequence-is, lesser}
+use Rattle.lsm_table.proofs.OrderedBlocks.{all-back}
 
 is_below_no : (n first : ℕ) → first ≤ n → nat_lt n first ≡ false
 is_below_no n first past = grind (arith, nat_tests)
 
 below_all : (first : ℕ) (rows : List Row) → AllBefore first rows → filter (is_below first) rows ≡ rows
-below_all first rows before = filter_all (is_below first) rows (All-weaker (λ row. row.sequence < first) (λ row. is_below first row ≡ true) (λ row less. is_below_yes row.sequence first less) rows before)
+below_all first rows before = filter_all (is_below first) rows (All-weaker (λ row. row.sequence < first) (λ row. is_below first row ≡ true) (λ row less. lesser row.sequence first less) rows before)
 
 pub grown_none : (first : ℕ) (old : List Row) → AllBefore first old → IsGrown first old [] old
 grown_none first old before = record {
@@ -46,7 +44,7 @@ grown_none first old before = record {
 -- a row with a greater sequence than all is its key's newest wherever it stands
 newest_past : (row : Row) (o : Option Row) → ((q : Row) → o ≡ Some q → q.sequence < row.sequence) → newest_of o (Some row) ≡ Some row
 newest_past row None less = refl
-newest_past row (Some q) less = ap (λ t. Some (cond t row q)) (is_below_yes q.sequence row.sequence (less q refl))
+newest_past row (Some q) less = ap (λ t. Some (cond t row q)) (lesser q.sequence row.sequence (less q refl))
 
 put_newest : (key : List ℕ) (front back : List Row) (row : Row) → AllBefore row.sequence front → AllBefore row.sequence back → newest key (front ++ row ∷ back) ≡ newest key ((front ++ back) ++ row ∷ [])
 put_newest key front back row before behind =
@@ -74,7 +72,7 @@ pub grown_more : (first : ℕ) (old more now new : List Row) (row : Row) → IsG
 grown_more first old more now new row was put is =
     let before : AllBefore row.sequence (put.front ++ put.back) = subst (λ l. AllBefore row.sequence l) put.before (subst (λ n. AllBefore n now) (sym is) was.before) in
     let early : AllBefore row.sequence put.front = all_left (λ r. r.sequence < row.sequence) put.front put.back before in
-    let late : AllBefore row.sequence put.back = all_right (λ r. r.sequence < row.sequence) put.front put.back before in
+    let late : AllBefore row.sequence put.back = all-back (λ r. r.sequence < row.sequence) put.front put.back before in
     let later : AllBefore (first + length (more ++ row ∷ [])) (put.front ++ row ∷ put.back) =
     All-append (λ r. r.sequence < first + length (more ++ row ∷ [])) put.front (row ∷ put.back)
     (All-weaker (λ r. r.sequence < row.sequence) (λ r. r.sequence < first + length (more ++ row ∷ [])) (λ r less. omega (arith, less, is, length-append more (row ∷ []))) put.front early)

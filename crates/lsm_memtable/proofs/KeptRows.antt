@@ -15,19 +15,13 @@ use Rattle.std.proofs.lemmas.Map.Keys.{sorted_head, sorted_tail}
 use Rattle.lsm_rows.specs.declared.rows.Row.{Row}
 use Rattle.lsm_rows.specs.Replay.{key_cmp}
 use Rattle.lsm_rows.specs.Contents.{newer, newest}
-use Rattle.lsm_rows.proofs.NewestRows.{same_key, newest_of, newest-append, newest_is}
+use Rattle.lsm_rows.proofs.NewestRows.{same_key, newest_of, newest-append, newest_is, not_below, tied}
 use Rattle.lsm_memtable.specs.Order.{row_cmp, AreInOrder}
 use Rattle.lsm_memtable.specs.Kept.{rows_in, AreVersions, AreKept}
 use Rattle.lsm_memtable.proofs.Sorting.{sorted_nil, sorted_cons, sorted-append, both, weaker}
 
-not_below : (a b : ℕ) → a < b → nat_lt b a ≡ false
-not_below a b less = grind (arith, nat_tests)
-
 pub below_by : (a b : ℕ) → nat_cmp a b ≡ Less → a < b
 below_by a b less = grind (arith, nat_tests)
-
-pub tied : (k q : List ℕ) → q ≡ k → eq_by_cmp key_cmp k q ≡ true
-tied k q same = ap (λ (l : List ℕ). is_eq (key_cmp k l)) same ∙ ap is_eq (tied_itself nat_list_cmp_total k)
 
 -- of rows with smaller sequences none is newer
 pub keeps_newer : (row : Row) (o : Option Row) → ((q : Row) → o ≡ Some q → q.sequence < row.sequence) → newer row o ≡ row

@@ -12,12 +12,11 @@ use Rattle.std.proofs.lemmas.Map.Keys.{sorted_head, sorted_tail}
 use Rattle.lsm_rows.specs.declared.rows.Row.{Row}
 use Rattle.lsm_rows.specs.Replay.{key_cmp}
 use Rattle.lsm_rows.specs.Contents.{newer, newest, IsNewest}
-use Rattle.lsm_rows.proofs.NewestRows.{same_key, newest_is}
+use Rattle.lsm_rows.proofs.NewestRows.{same_key, newest_is, tied, above_from}
 use Rattle.lsm_block.specs.TableText.{AreTableRows}
 use Rattle.lsm_memtable.specs.Newest.{has_sequence, is_newest, newest_each}
 use Rattle.lsm_memtable.specs.Order.{row_cmp, AreInOrder}
 use Rattle.lsm_memtable.proofs.Sorting.{sorted_nil, sorted_cons}
-use Rattle.lsm_memtable.proofs.KeptRows.{tied}
 
 each-is : (rows : List Row) → newest_each rows ≡ filter (is_newest rows) rows
 unfolding newest_each
@@ -54,9 +53,6 @@ less_of a b most is = grind (arith, nat_tests)
 not_less : (a b : ℕ) → b ≤ a → nat_lt a b ≡ false
 not_less a b past = grind (arith, nat_tests)
 
-above_of : (a b : ℕ) → nat_lt a b ≡ false → b ≤ a
-above_of a b is = grind (arith, nat_tests)
-
 AtMost : List ℕ → ℕ → Row → Type 0
 AtMost key n row = row.key ≡ key → row.sequence ≤ n
 
@@ -92,7 +88,7 @@ leaves_older r n (Some q) less = by_test (nat_lt r.sequence q.sequence) refl
     by_test : (b : Bool) → nat_lt r.sequence q.sequence ≡ b → if_newest n (Some q) ≡ if_newest n (Some (cond b q r))
     by_test true newer_q = refl
     by_test false older_q =
-        ap (λ t. cond t (Some q) None) (other_number q.sequence n (let h = above_of r.sequence q.sequence older_q in omega (arith, h, less))) ∙ sym (ap (λ t. cond t (Some r) None) (other_number r.sequence n less))
+        ap (λ t. cond t (Some q) None) (other_number q.sequence n (let h = above_from r.sequence q.sequence older_q in omega (arith, h, less))) ∙ sym (ap (λ t. cond t (Some r) None) (other_number r.sequence n less))
 
 kept_newest : (key : List ℕ) (best : Row) (p : Row → Bool) → ((row : Row) → key ≡ row.key → p row ≡ nat_eq best.sequence row.sequence) → (rows : List Row) → All (AtMost key best.sequence) rows
     → newest key (filter p rows) ≡ if_newest best.sequence (newest key rows)

@@ -18,14 +18,11 @@ use Rattle.lsm_memtable.specs.Kept.{rows_in, AreVersions, AreKept}
 use Rattle.lsm_memtable.proofs.Sorting.{sorted_nil, sorted_cons}
 use Rattle.lsm_memtable.proofs.KeptRows.{Each, Ascend, each_head, each_tail}
 use Rattle.lsm_memtable.proofs.KeyRanges.{keys_cmp}
+use Rattle.lsm_table.proofs.OrderedBlocks.{all-back}
 
 pub all_left : {X : Type 0} (P : X → Type 0) (xs ys : List X) → All P (xs ++ ys) → All P xs
 all_left P [] ys all = All-nil P
 all_left P (x ∷ xs) ys all = All-cons P x xs (All-head P x (xs ++ ys) all) (all_left P xs ys (All-tail P x (xs ++ ys) all))
-
-pub all_right : {X : Type 0} (P : X → Type 0) (xs ys : List X) → All P (xs ++ ys) → All P ys
-all_right P [] ys all = all
-all_right P (x ∷ xs) ys all = all_right P xs ys (All-tail P x (xs ++ ys) all)
 
 less_by : (a b : ℕ) → a < b → nat_cmp a b ≡ Less
 less_by a b less = grind (arith, nat_tests)
@@ -62,7 +59,7 @@ each_set : {Z : Type 0} (row : Row) (rows : List Row) (es : List (Vec ℕ Z × L
     → row.sequence < 2 ^ 56 → Each (set_value (at_key row.key) es (row ∷ rows))
 each_set row rows [] found each past below = each
 each_set {Z} row rows (e ∷ es) found each past below =
-    by_test (at_key row.key e.0) refl found (λ rest. each_set row rows es rest (each_tail e es each) (all_right (λ r. r.sequence < row.sequence) e.1 (rows_in es) past) below)
+    by_test (at_key row.key e.0) refl found (λ rest. each_set row rows es rest (each_tail e es each) (all-back (λ r. r.sequence < row.sequence) e.1 (rows_in es) past) below)
   where
     by_test : (t : Bool) → at_key row.key e.0 ≡ t → cond t (Some e.1) (lookup (at_key row.key) es) ≡ Some rows
         → (lookup (at_key row.key) es ≡ Some rows → Each (set_value (at_key row.key) es (row ∷ rows)))

@@ -28,7 +28,8 @@ pub record IsKeyAt (rows : List Row) (place : ℕ) (key : List ℕ) : Type 0 whe
 
 -- rows are built up to a place whose row has this key; or there is none, and all rows are built
 abbrev pub IsBuiltTo : {Z : Type 0} → List Row → ℕ → ℕ → Option (Vec ℕ Z) → Type 0
-IsBuiltTo rows until built next = MatchOption next ((built ≡ length rows) × (length rows ≤ until)) (λ key. (built ≡ until) × IsKeyAt rows until key.items)
+IsBuiltTo rows until built next = MatchOption next ((built ≡ length rows) × (length rows ≤ until))
+    (λ key. (built ≡ until) × IsKeyAt rows until key.items)
 
 -- the first of a key's rows has this place among a table's rows, and may come into the table
 pub record IsReady (p : Progress) (rows : List Row) (place : ℕ) (versions : List Row) : Type 0 where

@@ -27,7 +27,8 @@ pub struct Progress {
 /// The bytes of blocks that were ended and not handed out yet. It takes no memory.
 pub fn ended_bytes(builder: &mut TableBuilder, alloc: Global) -> Bytes
     ensures built { (rows : List Row) (handed : List ℕ) → IsBuilt builder.old rows handed → IsBuilt builder.new rows (handed ++ result) }
-    ensures all { (rows : List Row) (handed : List ℕ) → IsBuilt builder.old rows handed → handed ++ result ≡ blocks_text (blocks_of (map row_entry rows)).ended }
+    ensures all { (rows : List Row) (handed : List ℕ) → IsBuilt builder.old rows handed
+        → handed ++ result ≡ blocks_text (blocks_of (map row_entry rows)).ended }
     ensures size { size_of builder.new.blocks ≡ size_of builder.old.blocks }
     ensures number { builder.new.number ≡ builder.old.number }
     ensures session { builder.new.session ≡ builder.old.session }
@@ -63,7 +64,8 @@ impl Progress {
         requires behind { IsBehind self.old.builder row.now }
         requires room { size_of self.old.builder.blocks + row_len row.now + 108 < 2 ^ 29 }
         requires few { self.old.built < 2 ^ 32 }
-        ensures ok { (rows : List Row) → IsProgress self.old rows → IsRowAt rows self.old.built row.now → OnOk result (IsProgress self.new rows) }
+        ensures ok { (rows : List Row) → IsProgress self.old rows → IsRowAt rows self.old.built row.now
+            → OnOk result (IsProgress self.new rows) }
         ensures err { (rows : List Row) → IsProgress self.old rows → OnErr result (IsProgress self.new rows) }
         ensures built { OnOk result (self.new.built ≡ self.old.built + 1) }
         ensures not_built { OnErr result (self.new.built ≡ self.old.built) }
@@ -83,7 +85,8 @@ impl Progress {
     pub fn hand_out(&mut self, alloc: Global) -> Bytes
         requires { self.old.taken ≤ self.old.built }
         ensures progress { (rows : List Row) → IsProgress self.old rows → IsProgress self.new rows }
-        ensures bytes { (rows : List Row) → IsProgress self.old rows → bytes_of rows self.old.taken ++ result ≡ bytes_of rows self.new.taken }
+        ensures bytes { (rows : List Row) → IsProgress self.old rows
+            → bytes_of rows self.old.taken ++ result ≡ bytes_of rows self.new.taken }
         ensures taken { self.new.taken ≡ self.old.built }
         ensures built { self.new.built ≡ self.old.built }
         ensures number { self.new.builder.number ≡ self.old.builder.number }

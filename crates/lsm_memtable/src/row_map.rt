@@ -191,7 +191,8 @@ fn copy_from(
 ) -> Result<Rows, NoMemory>
     requires long { IfSome after (λ key. 8 ≤ length key.now) }
     requires kept { AreKept keys.now.entries }
-    ensures { let from = entries_between (λ a b. key_cmp a.items b.items) (bound_map (λ key. key.now) start.entry) Unbounded keys.now.entries in
+    ensures { let from = entries_between (λ a b. key_cmp a.items b.items)
+        (bound_map (λ key. key.now) start.entry) Unbounded keys.now.entries in
         IfOk result (λ rows. rows ≡ take count (rows_after (option_map (λ key. key.now) after.entry) (rows_in from))) }
 {
     let mut out = Rows::new(alloc);
@@ -216,7 +217,8 @@ fn add_keys(
     requires kept { AreKept keys.now.entries }
     requires room { room_of (rows_in keys.now.entries) + 4 < 2 ^ 29 }
     requires progress { IsProgress table.old (newest_each (rows_in keys.now.entries)) }
-    requires place { let from = entries_between (λ a b. key_cmp a.items b.items) (bound_map (λ key. key.now) start) Unbounded keys.now.entries in
+    requires place { let from = entries_between (λ a b. key_cmp a.items b.items)
+        (bound_map (λ key. key.now) start) Unbounded keys.now.entries in
         heads from ≡ drop place (newest_each (rows_in keys.now.entries)) }
     requires built { place ≤ table.old.built }
     requires until { table.old.built ≤ until }

@@ -13,8 +13,11 @@ pub mod MadeLemmas
 pub mod OpeningLemmas
 pub mod PinHistories
 pub mod PinLemmas
+pub mod PlainFolders
+pub mod PlainHalts
 pub mod PlainLemmas
 pub mod PlainPins
+pub mod PlainRestores
 pub mod PlayLemmas
 pub mod RefusalLemmas
 pub mod StepLemmas

@@ -1,6 +1,6 @@
 -- What a restore's calls, and calls that take views back, move of a state's core.
-use Rattle.std.specs.Prelude.{◌≡◌, ℕ, true, false, List, [], Option, Some, None, Result, Ok, Err}
-use Rattle.std.proofs.Common.{refl, ap, ◌∙◌, inl, inr}
+use Rattle.std.specs.Prelude.{ℕ, true, false, List, [], Some, None, Result, Ok, Err}
+use Rattle.std.proofs.Common.{refl, ap, inl, inr}
 use Rattle.lsm_disk.specs.declared.calls.DiskCall.{DiskCall}
 use Rattle.lsm_disk.specs.declared.calls.DiskCall.TheVariants as disk
 use Rattle.lsm_disk.specs.declared.dest.DestError.{DestError}
@@ -9,7 +9,7 @@ use Rattle.lsm_model.specs.declared.states.State.{State}
 use Rattle.lsm_model.specs.Destination.{BeginsFolder, FillsFolder, FinishesFolder, unfinished}
 use Rattle.lsm_model.specs.Steps.{Made, Asked, Began, Filed, Appended, Sealed, Finished, Closed_file, Closed_tables, Makes}
 use Rattle.lsm_model.specs.Runs.{core, Moves, Same, Founded, Changed, added}
-use Rattle.lsm_model.proofs.Cores.{moved, becomes_same, halts_same, stays_same}
+use Rattle.lsm_model.proofs.Cores.{moved, becomes_same, halts_same}
 use Rattle.lsm_model.proofs.CrashLemmas.{no_folder}
 
 pub begin_moves : (s t : State) (dir : List ℕ) (result : Result (Unit {0}) DestError) → BeginsFolder s dir result t → Moves (core s) (core t) []

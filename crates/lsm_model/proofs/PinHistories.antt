@@ -31,11 +31,12 @@ use Rattle.lsm_model.specs.Reads.{shown_by_pin}
 use Rattle.lsm_model.specs.Pins as pins
 use Rattle.lsm_model.specs.Checkpoints as checkpoints
 use Rattle.lsm_model.specs.Checkpoints.{IsFinished, checkpoint_folder}
-use Rattle.lsm_model.proofs.PinLemmas.{found_number, same_if, other_if, same_test}
+use Rattle.lsm_model.proofs.PinLemmas.{found_number, same_if, other_if}
 use Rattle.lsm_model.proofs.Cores.{becomes_same, cuts_at_same, with_new_pin}
 use Rattle.lsm_model.proofs.Histories.{pin_stays, shown_stays}
 use Rattle.lsm_model.proofs.RunLemmas.{run_at, shown_now}
 use Rattle.lsm_model.proofs.CountLemmas.{all_found, run_counted}
+use Rattle.lsm_disk.proofs.Paths.{itself}
 
 -- ---- a pin that is given
 
@@ -48,7 +49,7 @@ fresh greatest (pin ∷ pins) all =
     ∙ fresh greatest pins (All-tail (λ (pin : Pin). pin.number ≤ greatest) pin pins all)
 
 found_last : (pins : List Pin) (new : Pin) → pin_of new.number pins ≡ None → pin_of new.number (pins ++ new ∷ []) ≡ Some new
-found_last [] new none = ap (λ (b : Bool). cond b (Some new) None) (same_test new.number)
+found_last [] new none = ap (λ (b : Bool). cond b (Some new) None) (itself new.number)
 found_last (first ∷ pins) new none =
     elim (first.number == new.number) as (λ b. cond b (Some first) (pin_of new.number pins) ≡ None → cond b (Some first) (pin_of new.number (pins ++ new ∷ [])) ≡ Some new) [
       | true ↦ λ is. absurd (cc)

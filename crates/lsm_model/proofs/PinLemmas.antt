@@ -8,6 +8,7 @@ use Rattle.std.specs.Option.{option_map}
 use Rattle.lsm_model.specs.declared.states.Pin.{Pin}
 use Rattle.lsm_model.specs.declared.states.FolderRead.{FolderRead}
 use Rattle.lsm_model.specs.States.{pin_of, with_pin, without_pin, folder_of, with_folder}
+use Rattle.lsm_disk.proofs.Paths.{itself}
 
 -- ---- tests of numbers
 
@@ -16,9 +17,6 @@ same_if a b test = grind (arith, nat_tests)
 
 pub other_if : (a b : ℕ) → a ≢ b → (a == b) ≡ false
 other_if a b differ = grind (arith, nat_tests)
-
-pub same_test : (a : ℕ) → (a == a) ≡ true
-same_test a = grind (arith, nat_tests)
 
 pub not_if : (a b : ℕ) → (a == b) ≡ false → a ≢ b
 not_if a b test = grind (arith, nat_tests)
@@ -65,7 +63,7 @@ placed new [] = refl
 placed new (pin ∷ pins) =
     elim (pin.number == new.number) as (λ b. (pin.number == new.number) ≡ b
     → pin_of new.number (cond b (new ∷ pins) (pin ∷ with_pin new pins)) ≡ option_map (λ (p : Pin). new) (cond b (Some pin) (pin_of new.number pins))) [
-      | true ↦ λ test. ap (λ (b : Bool). cond b (Some new) (pin_of new.number pins)) (same_test new.number)
+      | true ↦ λ test. ap (λ (b : Bool). cond b (Some new) (pin_of new.number pins)) (itself new.number)
       | false ↦ λ test. ap (λ (b : Bool). cond b (Some pin) (pin_of new.number (with_pin new pins))) test ∙ placed new pins
     ] refl
 

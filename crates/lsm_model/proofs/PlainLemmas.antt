@@ -1,5 +1,5 @@
 -- What a plain store's answers are steps of.
-use Rattle.std.specs.Prelude.{◌≡◌, ◌≢◌, ℕ, zero, suc, ◌+◌, ◌-◌, ◌<◌, ◌≤◌, Bool, true, false, not, ◌==◌, ◌&&◌, nat_lt, nat_le, cond, List, [], ◌∷◌, ◌++◌, length, map, All, Option, Some, None, Ok, Err}
+use Rattle.std.specs.Prelude.{◌≡◌, ◌≢◌, ℕ, zero, suc, ◌+◌, ◌-◌, ◌<◌, ◌≤◌, Bool, true, false, not, ◌==◌, ◌&&◌, nat_lt, nat_le, cond, List, [], ◌∷◌, ◌++◌, length, map, get_or, All, is_some, IfSome, Option, Some, None, Result, Ok, Err}
 use Rattle.std.proofs.Common.{refl, sym, ap, subst, ◌∙◌, arith}
 use Rattle.std.proofs.lemmas.Bool.Decides.{nat_tests}
 use Rattle.std.proofs.lemmas.List.{take-append-le, length-append}
@@ -21,6 +21,7 @@ use Rattle.lsm_model.specs.declared.replies.Flushed.TheVariants as flush
 use Rattle.lsm_model.specs.declared.replies.Begun.TheVariants as begun
 use Rattle.lsm_model.specs.declared.replies.Stepped.TheVariants as merge
 use Rattle.lsm_model.specs.declared.replies.Deleted.TheVariants as delete
+use Rattle.lsm_model.specs.declared.replies.Shown.{Shown}
 use Rattle.lsm_model.specs.declared.states.State.{State}
 use Rattle.lsm_model.specs.declared.states.Pin.{Pin}
 use Rattle.lsm_model.specs.declared.states.Holder.{Holder}
@@ -37,7 +38,8 @@ use Rattle.lsm_model.specs.Reads.{Gets, Scans}
 use Rattle.lsm_model.specs.Upkeep as upkeep
 use Rattle.lsm_model.specs.Upkeep.{is_in_shape}
 use Rattle.lsm_model.specs.Pins.{Cuts, CutsAt, IsFlushed, Disables, Enables, ListsFiles, FreeOfLogs, IsNoLog, listed, pinned}
-use Rattle.lsm_model.specs.Plain.{state_of, plain_folder, IsPlain, IsPlainPin}
+use Rattle.lsm_model.specs.Plain.{state_of, plain_reading, plain_folder, HasFront, IsPlain, IsPlainPin}
+use Rattle.lsm_rows.proofs.ReplayedRows.{lesser}
 
 -- ---- tests
 
@@ -53,14 +55,29 @@ le_yes a b le = grind (arith, nat_tests)
 pub le_no : (a b : ℕ) → b < a → nat_le a b ≡ false
 le_no a b less = grind (arith, nat_tests)
 
-pub lt_yes : (a b : ℕ) → a < b → nat_lt a b ≡ true
-lt_yes a b less = grind (arith, nat_tests)
-
 pub lt_no : (a b : ℕ) → b ≤ a → nat_lt a b ≡ false
 lt_no a b le = grind (arith, nat_tests)
 
 pub same_state : (s : State) → Becomes s s
 same_state s = record { rest = refl; faults = omega arith; refusals = omega arith }
+
+-- ---- the halting call
+
+-- what isn't there is none
+pub none_from : {A : Type 0} (o : Option A) → ((x : A) → o ≡ Some x → ⊥) → o ≡ None
+none_from None other = refl
+none_from (Some x) other = absurd (other x refl)
+
+-- what isn't halted knows nothing against a call by that
+pub runs_on : (s : State) → s.halt ≡ None → halted s ≡ None
+runs_on s runs = ap (option_map error.Halted) runs
+
+pub first_runs : (s : State) (tests : List (Option StoreError)) → s.halt ≡ None → first_of (halted s ∷ tests) ≡ first_of tests
+first_runs s tests runs = ap (λ (o : Option Halt). first_of (option_map error.Halted o ∷ tests)) runs
+
+-- what is halted is refused for it first
+pub first_halted : (s : State) (tests : List (Option StoreError)) (e : StoreError) → halted s ≡ Some e → first_of (halted s ∷ tests) ≡ Some e
+first_halted s tests e is = ap (λ (o : Option StoreError). first_of (o ∷ tests)) is
 
 -- ---- disables
 
@@ -94,23 +111,23 @@ unfolding is_in_shape
 none_to p which.Shape = refl
 none_to p which.All = refl
 
-pub nothing_to_compact : (p : PlainLists) (which : Which) → upkeep.BeginsCompaction (state_of p) which (Ok begun.Nothing) (state_of p)
-nothing_to_compact p which = Done begun.Nothing refl refl (refl, none_to p which, refl)
+pub nothing_to_compact : (p : PlainLists) (which : Which) → p.halt ≡ None → upkeep.BeginsCompaction (state_of p) which (Ok begun.Nothing) (state_of p)
+nothing_to_compact p which runs = Done begun.Nothing refl (runs_on (state_of p) runs) (refl, none_to p which, refl)
 
-pub no_compaction : (p : PlainLists) (rows : ℕ) → upkeep.StepsCompaction (state_of p) rows (Ok merge.NoJob) (state_of p)
-no_compaction p rows = upkeep.Usual (Done merge.NoJob refl refl (refl, refl))
+pub no_compaction : (p : PlainLists) (rows : ℕ) → p.halt ≡ None → upkeep.StepsCompaction (state_of p) rows (Ok merge.NoJob) (state_of p)
+no_compaction p rows runs = upkeep.Usual (Done merge.NoJob refl (runs_on (state_of p) runs) (refl, refl))
 
 pub settled : (p : PlainLists) → IsPlain p → Settles (state_of p) (state_of p)
 settled p is = record { rest = same_state (state_of p); durable = omega arith; within = is.durable }
 
-pub none_deleted : (p : PlainLists) → IsPlain p → p.disables ≡ 0 → upkeep.Deletes (state_of p) (Ok delete.Nothing) (state_of p)
-none_deleted p is none = Done delete.Nothing refl refl (none, settled p is)
+pub none_deleted : (p : PlainLists) → IsPlain p → p.halt ≡ None → p.disables ≡ 0 → upkeep.Deletes (state_of p) (Ok delete.Nothing) (state_of p)
+none_deleted p is runs none = Done delete.Nothing refl (runs_on (state_of p) runs) (none, settled p is)
 
 pub deletion_disabled : (s : State) → s.halt ≡ None → s.disables ≢ 0 → upkeep.Deletes s (Ok (delete.Disabled s.disables)) s
 deletion_disabled s runs some = Done (delete.Disabled s.disables) refl (ap (option_map error.Halted) runs) (refl, some, refl)
 
-pub none_frozen : (p : PlainLists) → p.frozen ≡ 0 → upkeep.StepsFlush (state_of p) (Ok flush.NoJob) (state_of p)
-none_frozen p none = upkeep.Usual (Done flush.NoJob refl refl (none, refl))
+pub none_frozen : (p : PlainLists) → p.halt ≡ None → p.frozen ≡ 0 → upkeep.StepsFlush (state_of p) (Ok flush.NoJob) (state_of p)
+none_frozen p runs none = upkeep.Usual (Done flush.NoJob refl (runs_on (state_of p) runs) (none, refl))
 
 -- rows leave memory
 pub flushed : (p : PlainLists) (active frozen active_len frozen_len : ℕ) → IsPlain p
@@ -124,9 +141,9 @@ flushed p active frozen active_len frozen_len is = record {
   idle = λ one two. (refl, refl);
 }
 
-pub all_flushed : (p : PlainLists) → IsPlain p → p.frozen ≢ 0 → upkeep.StepsFlush (state_of p) (Ok flush.Installed) (state_of (record p { frozen = 0; frozen_len = 0 }))
-all_flushed p is some =
-    upkeep.Usual (Done flush.Installed refl refl (
+pub all_flushed : (p : PlainLists) → IsPlain p → p.halt ≡ None → p.frozen ≢ 0 → upkeep.StepsFlush (state_of p) (Ok flush.Installed) (state_of (record p { frozen = 0; frozen_len = 0 }))
+all_flushed p is runs some =
+    upkeep.Usual (Done flush.Installed refl (runs_on (state_of p) runs) (
       some,
       record {
         rest = flushed p p.active 0 p.active_len 0 is;
@@ -159,23 +176,23 @@ log_test s b is runs =
 pub not_frozen : (s : State) → s.halt ≡ None → upkeep.can_freeze s ≡ false → upkeep.Freezes s (Ok false) s
 not_frozen s runs is = Done false refl (log_test s false is runs) (is, refl)
 
-pub none_active : (p : PlainLists) → p.active ≡ 0 → upkeep.Freezes (state_of p) (Ok false) (state_of p)
-none_active p none = not_frozen (state_of p) refl (can_not p.active p.frozen none)
+pub none_active : (p : PlainLists) → p.halt ≡ None → p.active ≡ 0 → upkeep.Freezes (state_of p) (Ok false) (state_of p)
+none_active p runs none = not_frozen (state_of p) runs (can_not p.active p.frozen none)
 
-pub frozen_already : (p : PlainLists) → p.frozen ≢ 0 → upkeep.Freezes (state_of p) (Ok false) (state_of p)
-frozen_already p some = not_frozen (state_of p) refl (can_not_twice p.active p.frozen some)
+pub frozen_already : (p : PlainLists) → p.halt ≡ None → p.frozen ≢ 0 → upkeep.Freezes (state_of p) (Ok false) (state_of p)
+frozen_already p runs some = not_frozen (state_of p) runs (can_not_twice p.active p.frozen some)
 
-pub no_number : (p : PlainLists) → p.active ≢ 0 → p.frozen ≡ 0 → number_end ≤ p.next → upkeep.Freezes (state_of p) (Err (error.NumbersFull p.next)) (state_of p)
-no_number p some none full =
+pub no_number : (p : PlainLists) → p.halt ≡ None → p.active ≢ 0 → p.frozen ≡ 0 → number_end ≤ p.next → upkeep.Freezes (state_of p) (Err (error.NumbersFull p.next)) (state_of p)
+no_number p runs some none full =
     Refused (error.NumbersFull p.next) refl
-    (log_test (state_of p) true (can p.active p.frozen some none) refl ∙ ap (λ (o : Option StoreError). first_of (o ∷ [])) (test_yes _ (error.NumbersFull p.next) (le_yes number_end p.next full)))
+    (log_test (state_of p) true (can p.active p.frozen some none) runs ∙ ap (λ (o : Option StoreError). first_of (o ∷ [])) (test_yes _ (error.NumbersFull p.next) (le_yes number_end p.next full)))
     refl
 
-pub froze : (p : PlainLists) → IsPlain p → p.active ≢ 0 → p.frozen ≡ 0 → p.next < number_end
+pub froze : (p : PlainLists) → IsPlain p → p.halt ≡ None → p.active ≢ 0 → p.frozen ≡ 0 → p.next < number_end
     → upkeep.Freezes (state_of p) (Ok true) (state_of (record p { active = 0; frozen = p.active; active_len = 0; frozen_len = p.active_len; next = p.next + 1 }))
-froze p is some none less =
+froze p is runs some none less =
     Done true refl
-    (log_test (state_of p) true (can p.active p.frozen some none) refl ∙ ap (λ (o : Option StoreError). first_of (o ∷ [])) (test_no _ (error.NumbersFull p.next) (le_no number_end p.next less)))
+    (log_test (state_of p) true (can p.active p.frozen some none) runs ∙ ap (λ (o : Option StoreError). first_of (o ∷ [])) (test_no _ (error.NumbersFull p.next) (le_no number_end p.next less)))
     (can p.active p.frozen some none, record { rest = same_state (upkeep.with_frozen (state_of p)); durable = omega arith; within = is.durable })
 
 -- ---- live files
@@ -184,25 +201,25 @@ no_logs : (files : List CutFile) (flushing : Bool) → files ≡ [] → FreeOfLo
 no_logs files true none = subst (λ (l : List CutFile). All IsNoLog (map (λ (file : CutFile). file.name) l)) (sym none) (All-nil IsNoLog)
 no_logs files false none = tt
 
-pub no_live_files : (p : PlainLists) (live : LiveFiles) → IsPlain p → live.sequence ≡ p.sequence → live.manifest_len ≡ 0 → live.files ≡ [] → ListsFiles (state_of p) false (Ok live) (state_of p)
-no_live_files p live is sequence len none =
-    Usual (Done live refl refl (record { flushed = same_state (state_of p); sequence = sequence ∙ is.sequence; manifest_len = len; logs = no_logs live.files false none }))
+pub no_live_files : (p : PlainLists) (live : LiveFiles) → IsPlain p → p.halt ≡ None → live.sequence ≡ p.sequence → live.manifest_len ≡ 0 → live.files ≡ [] → ListsFiles (state_of p) false (Ok live) (state_of p)
+no_live_files p live is runs sequence len none =
+    Usual (Done live refl (runs_on (state_of p) runs) (record { flushed = same_state (state_of p); sequence = sequence ∙ is.sequence; manifest_len = len; logs = no_logs live.files false none }))
 
 -- all rows leave memory
 pub flushed_now : (p : PlainLists) → IsPlain p → IsFlushed (state_of p) (state_of (record p { active = 0; frozen = 0; active_len = 0; frozen_len = 0 }))
 flushed_now p is = record { rest = flushed p 0 0 0 0 is; active = refl; frozen = refl; active_len = refl; frozen_len = refl }
 
-pub live_flushed : (p : PlainLists) (live : LiveFiles) → IsPlain p → live.sequence ≡ p.sequence → live.manifest_len ≡ 0 → live.files ≡ []
+pub live_flushed : (p : PlainLists) (live : LiveFiles) → IsPlain p → p.halt ≡ None → live.sequence ≡ p.sequence → live.manifest_len ≡ 0 → live.files ≡ []
     → ListsFiles (state_of p) true (Ok live) (state_of (record p { active = 0; frozen = 0; active_len = 0; frozen_len = 0 }))
-live_flushed p live is sequence len none =
-    Usual (Done live refl refl (record { flushed = flushed_now p is; sequence = sequence ∙ is.sequence; manifest_len = len; logs = no_logs live.files true none }))
+live_flushed p live is runs sequence len none =
+    Usual (Done live refl (runs_on (state_of p) runs) (record { flushed = flushed_now p is; sequence = sequence ∙ is.sequence; manifest_len = len; logs = no_logs live.files true none }))
 
 -- ---- writes
 
-pub synced : (p : PlainLists) (d : ℕ) → d ≡ length p.accepted.items → SyncsLog (state_of p) (Ok tt) (state_of (record p { durable = d }))
-synced p d is =
+pub synced : (p : PlainLists) (d : ℕ) → p.halt ≡ None → d ≡ length p.accepted.items → SyncsLog (state_of p) (Ok tt) (state_of (record p { durable = d }))
+synced p d runs is =
     let P : ℕ → Type 0 = λ n. SyncsLog (state_of p) (Ok tt) (state_of (record p { durable = n })) in
-    subst P (sym is) (Done tt refl refl (same_state (all_durable (state_of p))))
+    subst P (sym is) (Done tt refl (runs_on (state_of p) runs) (same_state (all_durable (state_of p))))
 
 pub sequence_of_two : (start : ℕ) (xs : List (List Op)) (ops : List Op) → sequence_after start (xs ++ ops ∷ []) ≡ sequence_after start xs + length ops
 sequence_of_two start [] ops = refl
@@ -211,12 +228,19 @@ sequence_of_two start (x ∷ xs) ops = sequence_of_two (start + length x) xs ops
 pub longer : (xs ys : List (List Op)) (ops : List Op) → ys ≡ xs ++ ops ∷ [] → length ys ≡ length xs + 1
 longer xs ys ops is = ap length is ∙ length-append xs (ops ∷ [])
 
--- the folders show what they did when a batch comes behind theirs
-folders_stay : (accepted : List (List Op)) (ops : List Op) (folders : List PlainFolder) → All (λ (f : PlainFolder). f.batches ≤ length accepted) folders
+-- a front shows what it did when a batch comes behind
+front_stays : (accepted : List (List Op)) (ops : List Op) (name : List ℕ) (batches : Option ℕ) → IfSome batches (λ count. count ≤ length accepted)
+    → plain_reading (accepted ++ ops ∷ []) name batches ≡ plain_reading accepted name batches
+front_stays accepted ops name None front = refl
+front_stays accepted ops name (Some count) front =
+    ap (λ (first : List (List Op)). Ok (record { sequence = sequence_after 0 first; contents = replayed finite.empty first })) (take-append-le count accepted (ops ∷ []) front)
+
+-- so do the folders
+folders_stay : (accepted : List (List Op)) (ops : List Op) (folders : List PlainFolder) → All (HasFront accepted) folders
     → map (plain_folder (accepted ++ ops ∷ [])) folders ≡ map (plain_folder accepted) folders
 folders_stay accepted ops [] all = refl
 folders_stay accepted ops (f ∷ folders) all =
-    ap (λ (front : List (List Op)). record { name = f.name; reading = Ok (record { sequence = sequence_after 0 front; contents = replayed finite.empty front }); sure = true } ∷ map (plain_folder (accepted ++ ops ∷ [])) folders) (take-append-le f.batches accepted (ops ∷ []) (all zero f (omega arith)))
+    ap (λ (reading : Result Shown StoreError). record { name = f.name; reading = reading; sure = is_some f.batches } ∷ map (plain_folder (accepted ++ ops ∷ [])) folders) (front_stays accepted ops f.name f.batches (all zero f (omega arith)))
     ∙ ap (λ (l : List FolderRead). plain_folder accepted f ∷ l) (folders_stay accepted ops folders (λ k d less. all (suc k) d (omega (arith, less))))
 
 -- the store with one batch more
@@ -229,23 +253,28 @@ written_state p q ops sync n d l is more durable =
     λ i. record (with_batch ops sync (state_of p)) { accepted = more i; durable = durable i; folders = folders i; active_len = l }
 
 pub wrote : (p q : PlainLists) (ops : List Op) (sync : Bool) (n d l : ℕ) → IsPlain p → q.accepted.items ≡ p.accepted.items ++ ops ∷ []
-    → d ≡ cond sync (length p.accepted.items + 1) p.durable → n ≡ p.sequence + length ops → n ≤ last_sequence → p.active_len < l
+    → p.halt ≡ None → d ≡ cond sync (length p.accepted.items + 1) p.durable → n ≡ p.sequence + length ops → n ≤ last_sequence → p.active_len < l
     → Writes (state_of p) ops sync (Ok n) (state_of (record p { accepted = q.accepted; sequence = n; durable = d; active = p.active + 1; active_len = l }))
-wrote p q ops sync n d l is more durable sum fits more_bytes =
+wrote p q ops sync n d l is more runs durable sum fits more_bytes =
     let known : first_of (halted (state_of p) ∷ sequence_full (length ops) (state_of p) ∷ []) ≡ None
-    = ap (λ (o : Option StoreError). first_of (o ∷ [])) (test_no _ _ (lt_no last_sequence (last_of (state_of p) + length ops) (omega (arith, sum, fits, is.sequence)))) in
+    = first_runs (state_of p) (sequence_full (length ops) (state_of p) ∷ []) runs ∙ ap (λ (o : Option StoreError). first_of (o ∷ [])) (test_no _ _ (lt_no last_sequence (last_of (state_of p) + length ops) (omega (arith, sum, fits, is.sequence)))) in
     let P : State → Type 0 = Writes (state_of p) ops sync (Ok n) in
     subst P (sym (written_state p q ops sync n d l is more durable))
     (Done n refl known (sum ∙ ap (λ (m : ℕ). m + length ops) is.sequence, record { longer = more_bytes; rest = same_state (record (with_batch ops sync (state_of p)) { active_len = l }) }))
 
-pub sequence_is_full : (p : PlainLists) (ops : List Op) (sync : Bool) (count : ℕ) → IsPlain p → count ≡ length ops → last_sequence < p.sequence + count
+pub sequence_is_full : (p : PlainLists) (ops : List Op) (sync : Bool) (count : ℕ) → IsPlain p → p.halt ≡ None → count ≡ length ops → last_sequence < p.sequence + count
     → Writes (state_of p) ops sync (Err (error.SequenceFull p.sequence count)) (state_of p)
-sequence_is_full p ops sync count is len full =
+sequence_is_full p ops sync count is runs len full =
     let same : error.SequenceFull (last_of (state_of p)) (length ops) ≡ error.SequenceFull p.sequence count = λ i. error.SequenceFull (sym is.sequence i) (sym len i) in
     Refused (error.SequenceFull p.sequence count) refl
-    (ap (λ (o : Option StoreError). first_of (o ∷ [])) (test_yes _ _ (lt_yes last_sequence (last_of (state_of p) + length ops) (omega (arith, len, full, is.sequence))))
+    (first_runs (state_of p) (sequence_full (length ops) (state_of p) ∷ []) runs
+    ∙ ap (λ (o : Option StoreError). first_of (o ∷ [])) (test_yes _ _ (lesser last_sequence (last_of (state_of p) + length ops) (omega (arith, len, full, is.sequence))))
     ∙ ap (λ (e : StoreError). Some e) same)
     refl
+
+still_front : (few more : ℕ) (batches : Option ℕ) → few ≤ more → IfSome batches (λ count. count ≤ few) → IfSome batches (λ count. count ≤ more)
+still_front few more None le front = tt
+still_front few more (Some count) le front = omega (arith, le, front)
 
 -- what is kept fits the batches still
 pub plain_written : (p q : PlainLists) (ops : List Op) (n d a l : ℕ) → IsPlain p → q.accepted.items ≡ p.accepted.items ++ ops ∷ [] → d ≤ length p.accepted.items + 1
@@ -258,7 +287,7 @@ plain_written p q ops n d a l is more durable sum fits =
       durable = omega (arith, more_by_one, durable);
       few = is.few;
       pins = λ k pin less. let old = is.pins k pin less in record { front = omega (arith, more_by_one, old.front); none = old.none };
-      folders = λ k f less. let old = is.folders k f less in omega (arith, more_by_one, old);
+      folders = λ k f less. still_front (length p.accepted.items) (length q.accepted.items) (get_or p.folders.items k f).batches (omega (arith, more_by_one)) (is.folders k f less);
     }
 
 -- ---- cuts
@@ -267,11 +296,11 @@ pub with_pin_more : (p q : PlainLists) (holder : Holder) (g : ℕ) → q.pins.it
     → g ≡ p.greatest_pin + 1 → state_of (record p { pins = q.pins; greatest_pin = g }) ≡ pinned holder 0 [] (state_of p)
 with_pin_more p q holder g more is = λ i. record (state_of p) { pins = more i; greatest_pin = is i }
 
-pub cut_now : (p : PlainLists) (t : State) (by : FlushRule) (cut : Cut) (at : State) → IsPlain p → length p.pins.items < pin_limit → CutsAt (does_flush by (state_of p)) (state_of p) at → t ≡ pinned Caller 0 [] at
+pub cut_now : (p : PlainLists) (t : State) (by : FlushRule) (cut : Cut) (at : State) → IsPlain p → p.halt ≡ None → length p.pins.items < pin_limit → CutsAt (does_flush by (state_of p)) (state_of p) at → t ≡ pinned Caller 0 [] at
     → cut.pin ≡ p.greatest_pin + 1 → cut.sequence ≡ p.sequence → cut.manifest ≡ 0 → cut.files ≡ [] → Cuts (state_of p) by (Ok cut) t
-cut_now p t by cut at is room flushes state number sequence manifest none =
+cut_now p t by cut at is runs room flushes state number sequence manifest none =
     let known : first_of (halted (state_of p) ∷ pins_full (state_of p) ∷ []) ≡ None
-    = ap (λ (o : Option StoreError). first_of (o ∷ [])) (test_no _ _ (le_no pin_limit (length p.pins.items) room)) in
+    = first_runs (state_of p) (pins_full (state_of p) ∷ []) runs ∙ ap (λ (o : Option StoreError). first_of (o ∷ [])) (test_no _ _ (le_no pin_limit (length p.pins.items) room)) in
     Usual (Done cut refl known (record {
       at = at;
       files = [];
@@ -283,10 +312,11 @@ cut_now p t by cut at is room flushes state number sequence manifest none =
       rest = subst (λ (n : ℕ). Becomes (pinned Caller n [] at) t) (sym manifest) (subst (λ (q : State). Becomes (pinned Caller 0 [] at) q) (sym state) (same_state (pinned Caller 0 [] at)));
     }))
 
-pub no_room : (p : PlainLists) (by : FlushRule) → length p.pins.items ≡ pin_limit → Cuts (state_of p) by (Err (error.PinsFull 64)) (state_of p)
-no_room p by full =
+pub no_room : (p : PlainLists) (by : FlushRule) → p.halt ≡ None → length p.pins.items ≡ pin_limit → Cuts (state_of p) by (Err (error.PinsFull 64)) (state_of p)
+no_room p by runs full =
     Usual (Refused (error.PinsFull 64) refl
-    (ap (λ (o : Option StoreError). first_of (o ∷ [])) (test_yes _ _ (le_yes pin_limit (length p.pins.items) (omega (arith, full)))) ∙ ap (λ (n : ℕ). Some (error.PinsFull n)) full)
+    (first_runs (state_of p) (pins_full (state_of p) ∷ []) runs
+    ∙ ap (λ (o : Option StoreError). first_of (o ∷ [])) (test_yes _ _ (le_yes pin_limit (length p.pins.items) (omega (arith, full)))) ∙ ap (λ (n : ℕ). Some (error.PinsFull n)) full)
     refl)
 
 pub plain_pinned : (p q : PlainLists) (holder : Holder) (g : ℕ) → IsPlain p → length p.pins.items < pin_limit

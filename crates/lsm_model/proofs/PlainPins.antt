@@ -4,7 +4,9 @@ use Rattle.std.proofs.Common.{refl, sym, ap, subst, ◌∙◌, arith}
 use Rattle.std.specs.Str.{bytes_eq}
 use Rattle.std.proofs.lemmas.List.{map-append}
 use Rattle.std.proofs.lemmas.List.Elements.{All-nil, All-push}
+use Rattle.std.specs.Option.{option_map}
 use Rattle.lsm_names.specs.declared.file_names.FileName.{FileName}
+use Rattle.lsm_disk.specs.declared.calls.Halt.{Halt}
 use Rattle.lsm_model.specs.declared.errors.StoreError.{StoreError}
 use Rattle.lsm_model.specs.declared.errors.StoreError.TheVariants as error
 use Rattle.lsm_model.specs.declared.replies.JobStart.{JobStart}
@@ -20,15 +22,15 @@ use Rattle.lsm_model.specs.declared.lookups.PlainFolder.{PlainFolder}
 use Rattle.lsm_model.specs.declared.plain.PlainLists.{PlainLists}
 use Rattle.lsm_model.specs.States.{shown_at, pin_of, with_pin, without_pin, built_by, folder_of}
 use Rattle.lsm_model.specs.Moves.{Becomes}
-use Rattle.lsm_model.specs.Causes.{pin_limit, pins_full, refused_if, first_of, is_none, is_own, is_job, builds, files_of, file_in, no_job, is_taken}
+use Rattle.lsm_model.specs.Causes.{pin_limit, halted, under_way, pins_full, refused_if, first_of, is_none, is_own, is_job, builds, files_of, file_in, no_job, is_taken}
 use Rattle.lsm_model.specs.Answers.{Done, Wanting, Refused, Usual, MayFlush, does_flush}
 use Rattle.lsm_model.specs.Reads.{ShowsPin, ReadsPinned, shown_by_pin}
 use Rattle.lsm_model.specs.Pins.{Unpins, CutsAt, FreeOfLogs, pinned, unpinned}
 use Rattle.lsm_model.specs.Checkpoints as checkpoints
 use Rattle.lsm_model.specs.Checkpoints.{BeginsCheckpoint, StepsCheckpoint, FinishesCheckpoint, StopsCheckpoint, begin_refusal, size_rule, checkpoint_folder, published}
-use Rattle.lsm_model.specs.Plain.{state_of, plain_folder, IsPlain, IsPlainPin, IsJobOf}
+use Rattle.lsm_model.specs.Plain.{state_of, plain_folder, HasFront, IsPlain, IsPlainPin, IsJobOf}
 use Rattle.lsm_model.proofs.PinLemmas.{found_number}
-use Rattle.lsm_model.proofs.PlainLemmas.{test_yes, test_no, le_yes, le_no, same_state, flushed, flushed_now}
+use Rattle.lsm_model.proofs.PlainLemmas.{test_yes, test_no, le_yes, le_no, same_state, runs_on, first_runs, first_halted, flushed, flushed_now}
 
 -- ---- the list of pins
 
@@ -130,36 +132,37 @@ taken_else p dir found other is = ap is_some is ∙ sym (ap (λ (b : Bool). b ||
 
 -- ---- checkpoints begin
 
-pub begin_built : (p : PlainLists) (dir : List ℕ) (size : ℕ) → builds dir p.pins.items ≡ true → BeginsCheckpoint (state_of p) dir size (Err (error.UnderWay dir)) (state_of p)
-begin_built p dir size built =
-    checkpoints.Refused (error.UnderWay dir) refl (ap (λ (b : Bool). first_of (refused_if b (error.UnderWay dir) ∷ pins_full (state_of p) ∷ [])) built) refl
+pub begin_built : (p : PlainLists) (dir : List ℕ) (size : ℕ) → p.halt ≡ None → builds dir p.pins.items ≡ true → BeginsCheckpoint (state_of p) dir size (Err (error.UnderWay dir)) (state_of p)
+begin_built p dir size runs built =
+    checkpoints.Refused (error.UnderWay dir) refl
+    (first_runs (state_of p) (under_way dir (state_of p) ∷ pins_full (state_of p) ∷ []) runs ∙ ap (λ (b : Bool). first_of (refused_if b (error.UnderWay dir) ∷ pins_full (state_of p) ∷ [])) built) refl
 
-not_built : (p : PlainLists) (dir : List ℕ) → builds dir p.pins.items ≡ false → begin_refusal (state_of p) dir ≡ first_of (pins_full (state_of p) ∷ [])
-not_built p dir free = ap (λ (b : Bool). first_of (refused_if b (error.UnderWay dir) ∷ pins_full (state_of p) ∷ [])) free
+not_built : (p : PlainLists) (dir : List ℕ) → p.halt ≡ None → builds dir p.pins.items ≡ false → begin_refusal (state_of p) dir ≡ first_of (pins_full (state_of p) ∷ [])
+not_built p dir runs free = first_runs (state_of p) (under_way dir (state_of p) ∷ pins_full (state_of p) ∷ []) runs ∙ ap (λ (b : Bool). first_of (refused_if b (error.UnderWay dir) ∷ pins_full (state_of p) ∷ [])) free
 
-pub begin_full : (p : PlainLists) (dir : List ℕ) (size : ℕ) → builds dir p.pins.items ≡ false → length p.pins.items ≡ pin_limit → BeginsCheckpoint (state_of p) dir size (Err (error.PinsFull 64)) (state_of p)
-begin_full p dir size free full =
+pub begin_full : (p : PlainLists) (dir : List ℕ) (size : ℕ) → p.halt ≡ None → builds dir p.pins.items ≡ false → length p.pins.items ≡ pin_limit → BeginsCheckpoint (state_of p) dir size (Err (error.PinsFull 64)) (state_of p)
+begin_full p dir size runs free full =
     checkpoints.Refused (error.PinsFull 64) refl
-    (not_built p dir free
+    (not_built p dir runs free
     ∙ ap (λ (o : Option StoreError). first_of (o ∷ [])) (test_yes _ _ (le_yes pin_limit (length p.pins.items) (omega (arith, full))))
     ∙ ap (λ (n : ℕ). Some (error.PinsFull n)) full) refl
 
-begins : (p : PlainLists) (dir : List ℕ) → builds dir p.pins.items ≡ false → length p.pins.items < pin_limit → begin_refusal (state_of p) dir ≡ None
-begins p dir free room = not_built p dir free ∙ ap (λ (o : Option StoreError). first_of (o ∷ [])) (test_no _ _ (le_no pin_limit (length p.pins.items) room))
+begins : (p : PlainLists) (dir : List ℕ) → p.halt ≡ None → builds dir p.pins.items ≡ false → length p.pins.items < pin_limit → begin_refusal (state_of p) dir ≡ None
+begins p dir runs free room = not_built p dir runs free ∙ ap (λ (o : Option StoreError). first_of (o ∷ [])) (test_no _ _ (le_no pin_limit (length p.pins.items) room))
 
-pub begin_exists : (p : PlainLists) (dir : List ℕ) (size : ℕ) → builds dir p.pins.items ≡ false → length p.pins.items < pin_limit → is_taken dir (state_of p) ≡ true
+pub begin_exists : (p : PlainLists) (dir : List ℕ) (size : ℕ) → p.halt ≡ None → builds dir p.pins.items ≡ false → length p.pins.items < pin_limit → is_taken dir (state_of p) ≡ true
     → BeginsCheckpoint (state_of p) dir size (Err (error.CheckpointExists dir)) (state_of p)
-begin_exists p dir size free room taken = checkpoints.Exists refl (begins p dir free room) taken (same_state (state_of p))
+begin_exists p dir size runs free room taken = checkpoints.Exists refl (begins p dir runs free room) taken (same_state (state_of p))
 
 may_stay : (p : PlainLists) (flushing : Bool) → IsPlain p → MayFlush flushing (state_of p) (state_of p)
 may_stay p true is = flushed p p.active p.frozen p.active_len p.frozen_len is
 may_stay p false is = same_state (state_of p)
 
-pub begin_wanting : (p : PlainLists) (t : State) (dir : List ℕ) (size : ℕ) → IsPlain p → builds dir p.pins.items ≡ false → length p.pins.items < pin_limit → is_taken dir (state_of p) ≡ false
+pub begin_wanting : (p : PlainLists) (t : State) (dir : List ℕ) (size : ℕ) → IsPlain p → p.halt ≡ None → builds dir p.pins.items ≡ false → length p.pins.items < pin_limit → is_taken dir (state_of p) ≡ false
     → t ≡ state_of p → BeginsCheckpoint (state_of p) dir size (Err error.NoMemory) t
-begin_wanting p t dir size is free room taken state =
+begin_wanting p t dir size is runs free room taken state =
     subst (BeginsCheckpoint (state_of p) dir size (Err error.NoMemory)) (sym state)
-    (checkpoints.Cut (begins p dir free room) taken (Usual (Wanting refl refl (may_stay p (does_flush (size_rule size) (state_of p)) is))))
+    (checkpoints.Cut (begins p dir runs free room) taken (Usual (Wanting refl refl (may_stay p (does_flush (size_rule size) (state_of p)) is))))
 
 -- a checkpoint's size flushes where the logs reach it; they always reach 0
 pub size_flushes : (p : PlainLists) (size : ℕ) → does_flush (size_rule size) (state_of p) ≡ nat_le size (p.frozen_len + p.active_len)
@@ -181,11 +184,11 @@ no_logs : (flushing : Bool) → FreeOfLogs flushing []
 no_logs true = All-nil _
 no_logs false = tt
 
-pub begun_now : (p : PlainLists) (t at : State) (dir : List ℕ) (size : ℕ) (start : JobStart) → IsPlain p → builds dir p.pins.items ≡ false → length p.pins.items < pin_limit → is_taken dir (state_of p) ≡ false
+pub begun_now : (p : PlainLists) (t at : State) (dir : List ℕ) (size : ℕ) (start : JobStart) → IsPlain p → p.halt ≡ None → builds dir p.pins.items ≡ false → length p.pins.items < pin_limit → is_taken dir (state_of p) ≡ false
     → CutsAt (does_flush (size_rule size) (state_of p)) (state_of p) at → t ≡ pinned (Checkpoint dir 0) 0 [] at → start.pin ≡ p.greatest_pin + 1 → start.sequence ≡ p.sequence
     → BeginsCheckpoint (state_of p) dir size (Ok start) t
-begun_now p t at dir size start is free room taken flushes state number sequence =
-    checkpoints.Cut (begins p dir free room) taken (Usual (Done start refl refl (record {
+begun_now p t at dir size start is runs free room taken flushes state number sequence =
+    checkpoints.Cut (begins p dir runs free room) taken (Usual (Done start refl refl (record {
       at = at;
       manifest = 0;
       files = [];
@@ -208,14 +211,14 @@ no_job_known : (p : PlainLists) (number : ℕ) → is_job (pin_of number p.pins.
 no_job_known p number none = test_yes _ _ (ap not none)
 
 pub step_none : (p : PlainLists) (number : ℕ) → is_job (pin_of number p.pins.items) ≡ false → StepsCheckpoint (state_of p) number (Err (error.NoSuchPin number)) (state_of p)
-step_none p number none = Refused (error.NoSuchPin number) refl (ap (λ (o : Option StoreError). first_of (o ∷ None ∷ [])) (no_job_known p number none)) refl
+step_none p number none = Refused (error.NoSuchPin number) refl (ap (λ (o : Option StoreError). first_of (o ∷ halted (state_of p) ∷ [])) (no_job_known p number none)) refl
 
-pub stepped_now : (p : PlainLists) (number : ℕ) (job : Job) → IsJobOf job (pin_of number p.pins.items) → StepsCheckpoint (state_of p) number (Ok (nat_lt 0 job.left)) (state_of p)
-stepped_now p number job j =
+pub stepped_now : (p : PlainLists) (number : ℕ) (job : Job) → IsJobOf job (pin_of number p.pins.items) → p.halt ≡ None → StepsCheckpoint (state_of p) number (Ok (nat_lt 0 job.left)) (state_of p)
+stepped_now p number job j runs =
     let same : record j.pin { holder = Checkpoint job.dir job.left } ≡ j.pin = λ i. record j.pin { holder = sym j.holder i } in
     let here : pin_of j.pin.number p.pins.items ≡ Some j.pin = ap (λ (n : ℕ). pin_of n p.pins.items) (found_number number p.pins.items j.pin j.is) ∙ j.is in
     let pins : with_pin (record j.pin { holder = Checkpoint job.dir job.left }) p.pins.items ≡ p.pins.items = ap (λ (x : Pin). with_pin x p.pins.items) same ∙ with_same j.pin p.pins.items here in
-    Done (nat_lt 0 job.left) refl (ap (λ (o : Option StoreError). first_of (o ∷ None ∷ [])) (is_known p number job j)) (record {
+    Done (nat_lt 0 job.left) refl (ap (λ (o : Option StoreError). first_of (o ∷ halted (state_of p) ∷ [])) (is_known p number job j) ∙ first_runs (state_of p) [] runs) (record {
       pin = j.pin;
       dir = job.dir;
       left = job.left;
@@ -226,6 +229,11 @@ stepped_now p number job j =
       answer = refl;
       rest = subst (λ (l : List Pin). Becomes (record (state_of p) { pins = l }) (state_of p)) (sym pins) (same_state (state_of p));
     })
+
+pub step_halted : (p : PlainLists) (number : ℕ) (job : Job) (first : Halt) → IsJobOf job (pin_of number p.pins.items) → p.halt ≡ Some first → StepsCheckpoint (state_of p) number (Err (error.Halted first)) (state_of p)
+step_halted p number job first j is =
+    Refused (error.Halted first) refl
+    (ap (λ (o : Option StoreError). first_of (o ∷ halted (state_of p) ∷ [])) (is_known p number job j) ∙ first_halted (state_of p) [] (error.Halted first) (ap (option_map error.Halted) is)) refl
 
 pub stop_none : (p : PlainLists) (number : ℕ) → is_job (pin_of number p.pins.items) ≡ false → StopsCheckpoint (state_of p) number (Err (error.NoSuchPin number)) (state_of p)
 stop_none p number none = Refused (error.NoSuchPin number) refl (no_job_known p number none) refl
@@ -242,18 +250,21 @@ module _ (p : PlainLists) (number : ℕ) (job : Job) (j : IsJobOf job (pin_of nu
   becomes : (t : State) → t ≡ unpinned number (state_of p) → Becomes (unpinned number (state_of p)) t
   becomes t state = subst (Becomes (unpinned number (state_of p))) (sym state) (same_state (unpinned number (state_of p)))
 
-  pub finish_taken : (t : State) → is_taken job.dir (state_of p) ≡ true → t ≡ unpinned number (state_of p) → FinishesCheckpoint (state_of p) number (Err (error.CheckpointExists job.dir)) t
-  finish_taken t taken state = checkpoints.Taken job.dir refl refl (record { pin = j.pin; left = job.left; job = record { found = j.is; holder = j.holder }; taken = taken; rest = becomes t state })
+  pub finish_halted : (t : State) (first : Halt) → p.halt ≡ Some first → t ≡ unpinned number (state_of p) → FinishesCheckpoint (state_of p) number (Err (error.Halted first)) t
+  finish_halted t first is state = checkpoints.Halted (error.Halted first) refl (is_known p number job j) (ap (option_map error.Halted) is) state
 
-  pub finish_wanting : (t : State) → t ≡ unpinned number (state_of p) → FinishesCheckpoint (state_of p) number (Err error.NoMemory) t
-  finish_wanting t state = checkpoints.Wanting refl (is_known p number job j) refl (becomes t state)
+  pub finish_taken : (t : State) → p.halt ≡ None → is_taken job.dir (state_of p) ≡ true → t ≡ unpinned number (state_of p) → FinishesCheckpoint (state_of p) number (Err (error.CheckpointExists job.dir)) t
+  finish_taken t runs taken state = checkpoints.Taken job.dir refl (runs_on (state_of p) runs) (record { pin = j.pin; left = job.left; job = record { found = j.is; holder = j.holder }; taken = taken; rest = becomes t state })
 
-  pub finish_done : (q r : PlainLists) (sequence : ℕ) → is_taken job.dir (state_of p) ≡ false → state_of q ≡ unpinned number (state_of p)
-      → r.folders.items ≡ q.folders.items ++ (record { name = job.dir; batches = job.batches }) ∷ [] → sequence ≡ (shown_at (state_of p) job.batches).sequence
+  pub finish_wanting : (t : State) → p.halt ≡ None → t ≡ unpinned number (state_of p) → FinishesCheckpoint (state_of p) number (Err error.NoMemory) t
+  finish_wanting t runs state = checkpoints.Wanting refl (is_known p number job j) (runs_on (state_of p) runs) (becomes t state)
+
+  pub finish_done : (q r : PlainLists) (sequence : ℕ) → p.halt ≡ None → is_taken job.dir (state_of p) ≡ false → state_of q ≡ unpinned number (state_of p)
+      → r.folders.items ≡ q.folders.items ++ (record { name = job.dir; batches = Some job.batches }) ∷ [] → sequence ≡ (shown_at (state_of p) job.batches).sequence
       → FinishesCheckpoint (state_of p) number (Ok sequence) (state_of (record q { folders = r.folders }))
-  finish_done q r sequence free state more is =
+  finish_done q r sequence runs free state more is =
       let s : State = state_of p in
-      let folder : PlainFolder = record { name = job.dir; batches = job.batches } in
+      let folder : PlainFolder = record { name = job.dir; batches = Some job.batches } in
       let with_one : State → State = λ u. record u { folders = u.folders ++ plain_folder u.accepted folder ∷ [] } in
       let grown : state_of (record q { folders = r.folders }) ≡ with_one (state_of q)
       = ap (λ (l : List FolderRead). record (state_of q) { folders = l }) (ap (map (plain_folder q.accepted.items)) more ∙ map-append (plain_folder q.accepted.items) q.folders.items (folder ∷ [])) in
@@ -261,7 +272,7 @@ module _ (p : PlainLists) (number : ℕ) (job : Job) (j : IsJobOf job (pin_of nu
       let named : with_one (unpinned number s) ≡ published s j.pin job.dir true
       = λ i. record (unpinned (number_is i) s) { folders = s.folders ++ (record { name = job.dir; reading = Ok (shown_at s (sym j.batches i)); sure = true }) ∷ [] } in
       let all : state_of (record q { folders = r.folders }) ≡ published s j.pin job.dir true = grown ∙ ap with_one state ∙ named in
-      checkpoints.Done sequence refl refl (record {
+      checkpoints.Done sequence refl (runs_on s runs) (record {
         pin = j.pin;
         dir = job.dir;
         left = job.left;
@@ -271,7 +282,7 @@ module _ (p : PlainLists) (number : ℕ) (job : Job) (j : IsJobOf job (pin_of nu
         rest = subst (Becomes (published s j.pin job.dir true)) (sym all) (same_state (published s j.pin job.dir true));
       })
 
-  pub finish_plain : (q r : PlainLists) → IsPlain p → IsPlain q → state_of q ≡ unpinned number (state_of p) → r.folders.items ≡ q.folders.items ++ (record { name = job.dir; batches = job.batches }) ∷ []
+  pub finish_plain : (q r : PlainLists) → IsPlain p → IsPlain q → state_of q ≡ unpinned number (state_of p) → r.folders.items ≡ q.folders.items ++ (record { name = job.dir; batches = Some job.batches }) ∷ []
       → IsPlain (record q { folders = r.folders })
   finish_plain q r is after state more =
       let plain : IsPlainPin p.accepted.items j.pin = found_has (IsPlainPin p.accepted.items) number p.pins.items j.pin is.pins j.is in
@@ -282,6 +293,6 @@ module _ (p : PlainLists) (number : ℕ) (job : Job) (j : IsJobOf job (pin_of nu
         durable = after.durable;
         few = after.few;
         pins = after.pins;
-        folders = subst (All (λ (f : PlainFolder). f.batches ≤ length q.accepted.items)) (sym more)
-            (All-push (λ (f : PlainFolder). f.batches ≤ length q.accepted.items) q.folders.items (record { name = job.dir; batches = job.batches }) after.folders (omega (arith, plain.front, accepted, j.batches)));
+        folders = subst (All (HasFront q.accepted.items)) (sym more)
+            (All-push (HasFront q.accepted.items) q.folders.items (record { name = job.dir; batches = Some job.batches }) after.folders (omega (arith, plain.front, accepted, j.batches)));
       }

@@ -9,7 +9,7 @@ use Rattle.lsm_disk.specs.declared.dest.DestError.TheVariants as dest
 use Rattle.lsm_io.specs.Causes.{Rose}
 use Rattle.lsm_model.specs.declared.states.State.{State}
 use Rattle.lsm_model.specs.Halting.{Aimed}
-use Rattle.lsm_model.specs.Moves.{Becomes, Halts}
+use Rattle.lsm_model.specs.Moves.{Halts}
 use Rattle.lsm_model.specs.Destination.{BeginsFolder, FillsFolder, FinishesFolder}
 use Rattle.lsm_model.specs.Steps.{Made, Asked, Began, Filed, Appended, Sealed, Finished, Closed_file, Closed_tables, Makes}
 use Rattle.lsm_model.specs.Refusals.{restore_answer, HasRestoreCause, Was_halted, Failed_disk, Taken_name, Wanting_memory}

@@ -105,7 +105,7 @@ write_answers s t before after ops sync last run =
     (wrote at.0 at.1 ops sync last at.3).1
     ∙ ap (λ (shown : Shown). shown.sequence) (shown_now s at.1 (before ++ (Asked (event.Write ops sync) (reply.Write (Ok last))) ∷ []) (run_more s at.0 at.1 before (Asked (event.Write ops sync) (reply.Write (Ok last))) at.2 at.3))
 
-sequence_rises : (start : ℕ) (batches : List (List Op)) → start ≤ sequence_after start batches
+pub sequence_rises : (start : ℕ) (batches : List (List Op)) → start ≤ sequence_after start batches
 sequence_rises start [] = omega arith
 sequence_rises start (ops ∷ batches) = let more = sequence_rises (start + length ops) batches in omega (arith, more)
 

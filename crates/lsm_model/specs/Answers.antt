@@ -11,7 +11,8 @@ use Rattle.lsm_model.specs.Causes.{table_limit, number_end}
 
 -- What the store knows refuses the call first, and changes nothing. Else the call is done, or the disk failed, or memory
 -- was wanting.
-pub data Answers {A : Type 0} (known : Option StoreError) (Does : A → Type 0) (fails wants stays : Type 0) (result : Result A StoreError) : Type 0 where
+pub data Answers {A : Type 0} (known : Option StoreError) (Does : A → Type 0) (fails wants stays : Type 0)
+    (result : Result A StoreError) : Type 0 where
   Done : (value : A) → result ≡ Ok value → known ≡ None → Does value → Answers known Does fails wants stays result
   Failed : result ≡ Err DiskFault → known ≡ None → fails → Answers known Does fails wants stays result
   Wanting : result ≡ Err NoMemory → known ≡ None → wants → Answers known Does fails wants stays result
@@ -62,8 +63,11 @@ pub record FailsFlushing (rule : FlushRule) (s t : State) : Type 0 where
 
 -- The same, where rows may be flushed by a rule before the call is done. A refusal on the way may leave them frozen, and a
 -- flush begun.
-pub data AnswersFlushing {A : Type 0} (known : Option StoreError) (rule : FlushRule) (s : State) (Does : A → Type 0) (result : Result A StoreError) (t : State) : Type 0 where
+pub data AnswersFlushing {A : Type 0} (known : Option StoreError) (rule : FlushRule) (s : State) (Does : A → Type 0)
+    (result : Result A StoreError) (t : State) : Type 0 where
   Usual : Answers known Does (FailsFlushing rule s t) (MayFlush (does_flush rule s) s t) (t ≡ s) result
       → AnswersFlushing known rule s Does result t
-  No_number : (next : ℕ) → result ≡ Err (NumbersFull next) → known ≡ None → LacksNumber rule next s t → AnswersFlushing known rule s Does result t
-  No_place : (live adding : ℕ) → result ≡ Err (TablesFull live adding) → known ≡ None → LacksPlace rule live adding s t → AnswersFlushing known rule s Does result t
+  No_number : (next : ℕ) → result ≡ Err (NumbersFull next) → known ≡ None → LacksNumber rule next s t
+      → AnswersFlushing known rule s Does result t
+  No_place : (live adding : ℕ) → result ≡ Err (TablesFull live adding) → known ≡ None → LacksPlace rule live adding s t
+      → AnswersFlushing known rule s Does result t

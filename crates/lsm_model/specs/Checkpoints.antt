@@ -57,10 +57,13 @@ begin_refusal s dir = first_of (halted s ∷ under_way dir s ∷ pins_full s ∷
 
 -- Behind a test of its name a checkpoint begins as a cut does.
 pub data BeginsCheckpoint (s : State) (dir : List ℕ) (size : ℕ) (result : Result JobStart StoreError) (t : State) : Type 0 where
-  Refused : (refusal : StoreError) → result ≡ Err refusal → begin_refusal s dir ≡ Some refusal → t ≡ s → BeginsCheckpoint s dir size result t
+  Refused : (refusal : StoreError) → result ≡ Err refusal → begin_refusal s dir ≡ Some refusal → t ≡ s
+      → BeginsCheckpoint s dir size result t
   Failed : result ≡ Err DiskFault → begin_refusal s dir ≡ None → FailsToRead s t → BeginsCheckpoint s dir size result t
-  Exists : result ≡ Err (CheckpointExists dir) → begin_refusal s dir ≡ None → is_taken dir s ≡ true → Becomes s t → BeginsCheckpoint s dir size result t
-  Cut : begin_refusal s dir ≡ None → is_taken dir s ≡ false → AnswersFlushing None (size_rule size) s (λ (start : JobStart). IsBegun s dir (size_rule size) start t) result t
+  Exists : result ≡ Err (CheckpointExists dir) → begin_refusal s dir ≡ None → is_taken dir s ≡ true → Becomes s t
+      → BeginsCheckpoint s dir size result t
+  Cut : begin_refusal s dir ≡ None → is_taken dir s ≡ false → AnswersFlushing None (size_rule size) s
+      (λ (start : JobStart). IsBegun s dir (size_rule size) start t) result t
       → BeginsCheckpoint s dir size result t
   Given_up : begin_refusal s dir ≡ None → is_taken dir s ≡ false → GivesUp s dir (size_rule size) result t
       → BeginsCheckpoint s dir size result t
@@ -138,11 +141,13 @@ pub record IsTakenMeanwhile (s : State) (number : ℕ) (dir : List ℕ) (t : Sta
 -- The pin of the job ends with every answer.
 pub data FinishesCheckpoint (s : State) (pin : ℕ) (result : Result ℕ StoreError) (t : State) : Type 0 where
   No_job : (refusal : StoreError) → result ≡ Err refusal → no_job pin s ≡ Some refusal → t ≡ s → FinishesCheckpoint s pin result t
-  Halted : (refusal : StoreError) → result ≡ Err refusal → no_job pin s ≡ None → halted s ≡ Some refusal → t ≡ unpinned pin s → FinishesCheckpoint s pin result t
+  Halted : (refusal : StoreError) → result ≡ Err refusal → no_job pin s ≡ None → halted s ≡ Some refusal → t ≡ unpinned pin s
+      → FinishesCheckpoint s pin result t
   Done : (sequence : ℕ) → result ≡ Ok sequence → halted s ≡ None → IsFinished s pin sequence t → FinishesCheckpoint s pin result t
   Failed : result ≡ Err DiskFault → halted s ≡ None → FailsFinishing s pin t → FinishesCheckpoint s pin result t
   Wanting : result ≡ Err NoMemory → no_job pin s ≡ None → halted s ≡ None → Becomes (unpinned pin s) t → FinishesCheckpoint s pin result t
-  Taken : (dir : List ℕ) → result ≡ Err (CheckpointExists dir) → halted s ≡ None → IsTakenMeanwhile s pin dir t → FinishesCheckpoint s pin result t
+  Taken : (dir : List ℕ) → result ≡ Err (CheckpointExists dir) → halted s ≡ None → IsTakenMeanwhile s pin dir t
+      → FinishesCheckpoint s pin result t
 
 -- it asks no disk, takes no memory, and goes on where the store is halted
 abbrev pub StopsCheckpoint : State → ℕ → Result (Unit {0}) StoreError → State → Type 0

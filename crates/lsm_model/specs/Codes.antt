@@ -108,7 +108,8 @@ error_again error.NoMemory = refl
 
 abbrev pub coded_carried : Coded Carried
 coded_carried =
-    code_by (DiskCall × (List ℕ × (FileName × (ℕ × (ℕ × ℕ))))) (coded× coded_call (coded× coded_bytes (coded× coded_name (coded× coded_ℕ (coded× coded_ℕ coded_ℕ)))))
+    code_by (DiskCall × (List ℕ × (FileName × (ℕ × (ℕ × ℕ)))))
+    (coded× coded_call (coded× coded_bytes (coded× coded_name (coded× coded_ℕ (coded× coded_ℕ coded_ℕ)))))
     (λ c. (c.call, (c.path, (c.name, (c.one, (c.two, c.three))))))
     (λ p. record { call = p.0; path = p.1.0; name = p.1.1.0; one = p.1.1.1.0; two = p.1.1.1.1.0; three = p.1.1.1.1.1 }) (λ _. refl)
 
@@ -148,16 +149,19 @@ abbrev pub coded_holder : Coded Holder
 coded_holder = code_by (Unit {0} ⊎ (List ℕ × ℕ)) (coded⊎ coded_unit (coded× coded_bytes coded_ℕ)) holder_to holder_from holder_again
 
 abbrev pub coded_pinned : Coded PinnedFile
-coded_pinned = code_by (FileName × List ℕ) (coded× coded_name coded_bytes) (λ f. (f.name, f.bytes)) (λ p. record { name = p.0; bytes = p.1 }) (λ _. refl)
+coded_pinned = code_by (FileName × List ℕ) (coded× coded_name coded_bytes) (λ f. (f.name, f.bytes))
+    (λ p. record { name = p.0; bytes = p.1 }) (λ _. refl)
 
 abbrev pub coded_pin : Coded Pin
 coded_pin =
-    code_by (ℕ × (ℕ × (ℕ × (List PinnedFile × Holder)))) (coded× coded_ℕ (coded× coded_ℕ (coded× coded_ℕ (coded× (coded_list coded_pinned) coded_holder))))
+    code_by (ℕ × (ℕ × (ℕ × (List PinnedFile × Holder)))) (coded× coded_ℕ
+    (coded× coded_ℕ (coded× coded_ℕ (coded× (coded_list coded_pinned) coded_holder))))
     (λ p. (p.number, (p.batches, (p.manifest, (p.files, p.holder)))))
     (λ p. record { number = p.0; batches = p.1.0; manifest = p.1.1.0; files = p.1.1.1.0; holder = p.1.1.1.1 }) (λ _. refl)
 
 abbrev pub coded_shown : Coded Shown
-coded_shown = code_by (ℕ × Contents) (coded× coded_ℕ coded_contents) (λ s. (s.sequence, s.contents)) (λ p. record { sequence = p.0; contents = p.1 }) (λ _. refl)
+coded_shown = code_by (ℕ × Contents) (coded× coded_ℕ coded_contents) (λ s. (s.sequence, s.contents))
+    (λ p. record { sequence = p.0; contents = p.1 }) (λ _. refl)
 
 abbrev pub coded_folder : Coded FolderRead
 coded_folder =
@@ -165,7 +169,8 @@ coded_folder =
     (λ f. (f.name, (f.reading, f.sure))) (λ p. record { name = p.0; reading = p.1.0; sure = p.1.1 }) (λ _. refl)
 
 abbrev pub coded_live : Coded LiveTable
-coded_live = code_by (ℕ × (ℕ × ℕ)) (coded× coded_ℕ (coded× coded_ℕ coded_ℕ)) (λ t. (t.level, (t.number, t.size))) (λ p. record { level = p.0; number = p.1.0; size = p.1.1 }) (λ _. refl)
+coded_live = code_by (ℕ × (ℕ × ℕ)) (coded× coded_ℕ (coded× coded_ℕ coded_ℕ)) (λ t. (t.level, (t.number, t.size)))
+    (λ p. record { level = p.0; number = p.1.0; size = p.1.1 }) (λ _. refl)
 
 abbrev pub coded_place : Coded Place
 coded_place = code_by (ℕ × ℕ) (coded× coded_ℕ coded_ℕ) (λ p. (p.level, p.number)) (λ p. record { level = p.0; number = p.1 }) (λ _. refl)
@@ -231,13 +236,15 @@ state_from p = record {
 }
 
 abbrev pub coded_written : Coded Written
-coded_written = coded× coded_bytes (coded× coded_contents (coded× coded_ℕ (coded× (coded_list (coded_list coded_operation)) (coded× coded_ℕ (coded_option (coded_list coded_operation))))))
+coded_written = coded× coded_bytes (coded× coded_contents (coded× coded_ℕ
+    (coded× (coded_list (coded_list coded_operation)) (coded× coded_ℕ (coded_option (coded_list coded_operation))))))
 
 abbrev pub coded_held : Coded Held
 coded_held = coded× (coded_list coded_pin) (coded× coded_ℕ (coded× (coded_list coded_folder) (coded× (coded_option coded_bytes) coded_ℕ)))
 
 abbrev pub coded_rows : Coded Rows
-coded_rows = coded× (coded× coded_ℕ coded_ℕ) (coded× (coded× coded_ℕ coded_ℕ) (coded× (coded_list coded_live) (coded× (coded_option (coded_list coded_place)) (coded× coded_ℕ (coded× coded_ℕ coded_ℕ)))))
+coded_rows = coded× (coded× coded_ℕ coded_ℕ) (coded× (coded× coded_ℕ coded_ℕ)
+    (coded× (coded_list coded_live) (coded× (coded_option (coded_list coded_place)) (coded× coded_ℕ (coded× coded_ℕ coded_ℕ)))))
 
 abbrev pub coded_of_disk : Coded OfDisk
 coded_of_disk = coded× (coded_option coded_halt) (coded× coded_ℕ coded_ℕ)

@@ -65,7 +65,8 @@ pub record Opened (s t : State) : Type 0 where
   pub kept : ℕ
   pub accepted : length s.accepted ≤ kept
   pub shown : shown_after t [] ≡ shown_after s (take kept (written s))
-  pub folders : (name : List ℕ) → option_map (λ (f : FolderRead). f.reading) (folder_of name t.folders) ≡ option_map (λ (f : FolderRead). f.reading) (folder_of name s.folders)
+  pub folders : (name : List ℕ) → option_map (λ (f : FolderRead). f.reading) (folder_of name t.folders)
+      ≡ option_map (λ (f : FolderRead). f.reading) (folder_of name s.folders)
   pub sure : KeepsSure s.folders t.folders
   pub rest : t ≡ record (closed s) {
     opening = t.opening;

@@ -135,7 +135,8 @@ restore_answer Closed_tables = None
 -- failed and halts the store; the name of a folder that is taken, where one is begun; or want of memory. No other one comes.
 pub data HasRestoreCause (s : State) (made : Made) (refusal : DestError) (t : State) : Type 0 where
   Was_halted : (first : Halt) → refusal ≡ dest.Halted first → s.halt ≡ Some first → t ≡ s → HasRestoreCause s made refusal t
-  Failed_disk : (first : Halt) → refusal ≡ dest.Fault → s.halt ≡ None → t.halt ≡ Some first → Rose s.faults t.faults → HasRestoreCause s made refusal t
+  Failed_disk : (first : Halt) → refusal ≡ dest.Fault → s.halt ≡ None → t.halt ≡ Some first → Rose s.faults t.faults
+      → HasRestoreCause s made refusal t
   Taken_name : (dir : List ℕ) → made ≡ Began dir (Err refusal) → refusal ≡ dest.Exists → s.halt ≡ None → is_taken dir s ≡ true → Becomes s t
       → HasRestoreCause s made refusal t
   Wanting_memory : refusal ≡ dest.NoMemory → s.halt ≡ None → Becomes s t → HasRestoreCause s made refusal t

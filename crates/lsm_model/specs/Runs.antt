@@ -76,16 +76,25 @@ pub data Moves (s t : Core) (batches : List (List Op)) : Type 0 where
   Wrote : (ops : List Op) → batches ≡ ops ∷ [] → t ≡ record s { accepted = s.accepted ++ ops ∷ [] } → Moves s t batches
   Pinned : (holder : Holder) (manifest : ℕ) (files : List PinnedFile) → batches ≡ []
       → t ≡ record s {
-        pins = s.pins ++ (record { number = s.greatest_pin + 1; batches = length s.accepted; manifest = manifest; files = files; holder = holder }) ∷ [];
+        pins = s.pins ++ (record {
+          number = s.greatest_pin + 1;
+          batches = length s.accepted;
+          manifest = manifest;
+          files = files;
+          holder = holder;
+        }) ∷ [];
         greatest_pin = s.greatest_pin + 1;
       } → Moves s t batches
   Spent : batches ≡ [] → t ≡ record s { greatest_pin = s.greatest_pin + 1 } → Moves s t batches
   Unpinned : (number : ℕ) → batches ≡ [] → t ≡ record s { pins = without_pin number s.pins } → Moves s t batches
-  Stepped : (number : ℕ) (pin : Pin) (holder : Holder) → batches ≡ [] → pin_of number s.pins ≡ Some pin → built_by holder ≡ built_by pin.holder
+  Stepped : (number : ℕ) (pin : Pin) (holder : Holder) → batches ≡ [] → pin_of number s.pins ≡ Some pin
+      → built_by holder ≡ built_by pin.holder
       → t ≡ record s { pins = with_pin (record pin { holder = holder }) s.pins } → Moves s t batches
-  Published : (number : ℕ) (folder : FolderRead) → batches ≡ [] → t ≡ record s { pins = without_pin number s.pins; folders = s.folders ++ folder ∷ [] } → Moves s t batches
+  Published : (number : ℕ) (folder : FolderRead) → batches ≡ []
+      → t ≡ record s { pins = without_pin number s.pins; folders = s.folders ++ folder ∷ [] } → Moves s t batches
   Counted : (count : ℕ) → batches ≡ [] → t ≡ record s { disables = count } → Moves s t batches
   Founded : (folder : FolderRead) (begun : Option (List ℕ)) → batches ≡ [] → folder_of folder.name s.folders ≡ None
-      → (begun ≡ s.begun) ⊎ (begun ≡ Some folder.name) → t ≡ record s { folders = s.folders ++ folder ∷ []; begun = begun } → Moves s t batches
+      → (begun ≡ s.begun) ⊎ (begun ≡ Some folder.name) → t ≡ record s { folders = s.folders ++ folder ∷ []; begun = begun }
+      → Moves s t batches
   Changed : (folder : FolderRead) (begun : Option (List ℕ)) → batches ≡ [] → s.begun ≡ Some folder.name
       → (begun ≡ s.begun) ⊎ (begun ≡ None) → t ≡ record s { folders = with_folder folder s.folders; begun = begun } → Moves s t batches

@@ -22,7 +22,8 @@ pub struct Entry {
 /// entries alone, each once, and stand in the list of all in the lane's order. Each stands behind all that was done before
 /// its entry, so behind all that its lane had seen.
 pub fn a_lanes_commits_stand_in_its_order()
-    ensures all { (s t : State) (entries : List Entry) → Run s (steps_of entries) t → t.accepted ≡ s.accepted ++ batches_of (commits_of entries) }
+    ensures all { (s t : State) (entries : List Entry) → Run s (steps_of entries) t
+        → t.accepted ≡ s.accepted ++ batches_of (commits_of entries) }
     ensures own { (lane : ℕ) (entries : List Entry) → own_commits lane (commits_of entries) ≡ commits_of (own_entries lane entries) }
     ensures place { (seen after : List Entry) (entry : Entry) (ops : List Op) → added_by entry.event entry.reply ≡ ops ∷ []
         → commits_of (seen ++ entry ∷ after) ≡ commits_of seen ++ (entry.lane, ops) ∷ commits_of after }
@@ -32,7 +33,8 @@ pub fn a_lanes_commits_stand_in_its_order()
 /// A lane's get answers by the replay of the commits that stand before it, whichever lanes made them: of all that its lane
 /// had seen, and of no write that comes later.
 pub fn a_lane_sees_the_commits_before_it()
-    ensures { (s t : State) (seen after : List Entry) (entry : Entry) (key : List ℕ) (value : Option (List ℕ)) → Run s (steps_of (seen ++ entry ∷ after)) t
+    ensures { (s t : State) (seen after : List Entry) (entry : Entry) (key : List ℕ) (value : Option (List ℕ))
+        → Run s (steps_of (seen ++ entry ∷ after)) t
         → entry.event ≡ Event.Get key → entry.reply ≡ Reply.Get (Ok value)
         → value ≡ get (replayed s.opening (s.accepted ++ batches_of (commits_of seen))) key }
 {}
@@ -47,7 +49,8 @@ pub fn a_reading_shows_the_writes_before_it()
     ensures last { (s t : State) (before after : List Made) (last : ℕ)
         → Run s (before ++ (Asked Event.Last (Reply.Last last)) ∷ after) t → last ≡ (shown_behind s before).sequence }
     ensures place { (before between : List Made) (ops : List Op) (sync : Bool) (last : ℕ)
-        → accepted_in (before ++ (Asked (Event.Write ops sync) (Reply.Write (Ok last))) ∷ between) ≡ accepted_in before ++ ops ∷ accepted_in between }
+        → accepted_in (before ++ (Asked (Event.Write ops sync) (Reply.Write (Ok last))) ∷ between)
+        ≡ accepted_in before ++ ops ∷ accepted_in between }
 {}
 
 /// An accepted write answers the last sequence of all that was accepted up to it. Of two accepted writes the later one's
@@ -57,6 +60,7 @@ pub fn later_writes_have_greater_sequences()
         → Run s (before ++ (Asked (Event.Write ops sync) (Reply.Write (Ok last))) ∷ after) t
         → last ≡ (shown_behind s (before ++ (Asked (Event.Write ops sync) (Reply.Write (Ok last))) ∷ [])).sequence }
     ensures order { (s t : State) (before between after : List Made) (first second : List Op) (sync also : Bool) (earlier later : ℕ)
-        → Run s (before ++ (Asked (Event.Write first sync) (Reply.Write (Ok earlier))) ∷ (between ++ (Asked (Event.Write second also) (Reply.Write (Ok later))) ∷ after)) t
+        → Run s (before ++ (Asked (Event.Write first sync) (Reply.Write (Ok earlier)))
+        ∷ (between ++ (Asked (Event.Write second also) (Reply.Write (Ok later))) ∷ after)) t
         → earlier + length second ≤ later }
 {}

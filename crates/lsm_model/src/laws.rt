@@ -99,20 +99,26 @@ pub fn a_pin_keeps_what_it_was_given()
 /// beginning: the replay of the batches that were accepted before, at the sequence that was answered then.
 pub fn a_pin_shows_its_cut()
     ensures cut { (s t : State) (before between after : List Made) (rule : FlushRule) (cut : Cut) (shown : Shown) → IsCounted s
-        → Run s (before ++ (Asked (Event.Cut rule) (Reply.Cut (Ok cut))) ∷ (between ++ (Asked (Event.ShowPin cut.pin) (Reply.ShowPin (Ok shown))) ∷ after)) t
+        → Run s (before ++ (Asked (Event.Cut rule) (Reply.Cut (Ok cut)))
+        ∷ (between ++ (Asked (Event.ShowPin cut.pin) (Reply.ShowPin (Ok shown))) ∷ after)) t
         → (shown ≡ shown_behind s before) × (cut.sequence ≡ shown.sequence) }
-    ensures checkpoint { (s t : State) (before between after : List Made) (dir : List ℕ) (size : ℕ) (start : JobStart) (shown : Shown) → IsCounted s
-        → Run s (before ++ (Asked (Event.CheckpointBegin dir size) (Reply.CheckpointBegin (Ok start))) ∷ (between ++ (Asked (Event.ShowPin start.pin) (Reply.ShowPin (Ok shown))) ∷ after)) t
+    ensures checkpoint { (s t : State) (before between after : List Made) (dir : List ℕ) (size : ℕ) (start : JobStart)
+        (shown : Shown) → IsCounted s
+        → Run s (before ++ (Asked (Event.CheckpointBegin dir size) (Reply.CheckpointBegin (Ok start)))
+        ∷ (between ++ (Asked (Event.ShowPin start.pin) (Reply.ShowPin (Ok shown))) ∷ after)) t
         → (shown ≡ shown_behind s before) × (start.sequence ≡ shown.sequence) }
 {}
 
 /// Whenever a pinned file is read, as long as its pin lives, it has the same bytes; and as many as the cut listed for it.
 pub fn a_pinned_file_never_changes()
     ensures same { (s t : State) (before between after : List Made) (pin : ℕ) (name : FileName) (first second : List ℕ) → IsCounted s
-        → Run s (before ++ (Asked (Event.ReadPinned pin name) (Reply.ReadPinned (Ok first))) ∷ (between ++ (Asked (Event.ReadPinned pin name) (Reply.ReadPinned (Ok second))) ∷ after)) t
+        → Run s (before ++ (Asked (Event.ReadPinned pin name) (Reply.ReadPinned (Ok first)))
+        ∷ (between ++ (Asked (Event.ReadPinned pin name) (Reply.ReadPinned (Ok second))) ∷ after)) t
         → second ≡ first }
-    ensures listed { (s t : State) (before between after : List Made) (rule : FlushRule) (cut : Cut) (name : FileName) (bytes : List ℕ) → IsCounted s
-        → Run s (before ++ (Asked (Event.Cut rule) (Reply.Cut (Ok cut))) ∷ (between ++ (Asked (Event.ReadPinned cut.pin name) (Reply.ReadPinned (Ok bytes))) ∷ after)) t
+    ensures listed { (s t : State) (before between after : List Made) (rule : FlushRule) (cut : Cut) (name : FileName)
+        (bytes : List ℕ) → IsCounted s
+        → Run s (before ++ (Asked (Event.Cut rule) (Reply.Cut (Ok cut)))
+        ∷ (between ++ (Asked (Event.ReadPinned cut.pin name) (Reply.ReadPinned (Ok bytes))) ∷ after)) t
         → (file : CutFile) × Contains cut.files file × (file.name ≡ name) × (file.len ≡ length bytes) }
 {}
 
@@ -120,13 +126,18 @@ pub fn a_pinned_file_never_changes()
 /// batches that were accepted before, at the sequence that the beginning and the finish answered. It reads so too when the
 /// store is opened after a crash.
 pub fn a_checkpoint_shows_its_beginning()
-    ensures shown { (s t : State) (before between later after : List Made) (dir : List ℕ) (size : ℕ) (start : JobStart) (sequence : ℕ) (shown : Shown) → IsCounted s
+    ensures shown { (s t : State) (before between later after : List Made) (dir : List ℕ) (size : ℕ) (start : JobStart)
+        (sequence : ℕ) (shown : Shown) → IsCounted s
         → Run s (before ++ (Asked (Event.CheckpointBegin dir size) (Reply.CheckpointBegin (Ok start)))
-        ∷ (between ++ (Asked (Event.CheckpointFinish start.pin) (Reply.CheckpointFinish (Ok sequence))) ∷ (later ++ (Asked (Event.Show dir) (Reply.Show (Ok shown))) ∷ after))) t
+        ∷ (between ++ (Asked (Event.CheckpointFinish start.pin) (Reply.CheckpointFinish (Ok sequence)))
+        ∷ (later ++ (Asked (Event.Show dir) (Reply.Show (Ok shown))) ∷ after))) t
         → (shown ≡ shown_behind s before) × (start.sequence ≡ shown.sequence) × (sequence ≡ shown.sequence) }
-    ensures outlives { (s m c t : State) (before between after : List Made) (dir : List ℕ) (size : ℕ) (start : JobStart) (sequence : ℕ) → IsCounted s
-        → Run s (before ++ (Asked (Event.CheckpointBegin dir size) (Reply.CheckpointBegin (Ok start))) ∷ (between ++ (Asked (Event.CheckpointFinish start.pin) (Reply.CheckpointFinish (Ok sequence))) ∷ after)) m
-        → Crashed m c → Opened c t → (folder : FolderRead) × (folder_of dir t.folders ≡ Some folder) × (folder.reading ≡ Ok (shown_behind s before)) }
+    ensures outlives { (s m c t : State) (before between after : List Made) (dir : List ℕ) (size : ℕ) (start : JobStart)
+        (sequence : ℕ) → IsCounted s
+        → Run s (before ++ (Asked (Event.CheckpointBegin dir size) (Reply.CheckpointBegin (Ok start)))
+        ∷ (between ++ (Asked (Event.CheckpointFinish start.pin) (Reply.CheckpointFinish (Ok sequence))) ∷ after)) m
+        → Crashed m c → Opened c t → (folder : FolderRead) × (folder_of dir t.folders ≡ Some folder)
+        × (folder.reading ≡ Ok (shown_behind s before)) }
 {}
 
 /// A folder that is there, but the one that a restore has begun, reads as it did, whatever comes, a restore of another
@@ -153,7 +164,8 @@ pub fn a_crash_leaves_a_prefix()
 /// those of all accepted batches; and where the store was given up without a crash, the doubtful batch may be there too.
 pub fn an_opening_finds_a_prefix()
     ensures crash { (s m t : State) → Crashed s m → Opened m t
-        → (kept : ℕ) × (s.durable ≤ kept) × (t.opening ≡ replayed s.opening (take kept (written s))) × (t.began ≡ sequence_after s.began (take kept (written s))) }
+        → (kept : ℕ) × (s.durable ≤ kept) × (t.opening ≡ replayed s.opening (take kept (written s)))
+        × (t.began ≡ sequence_after s.began (take kept (written s))) }
     ensures synced { (s m c t : State) (before after : List Made) (e : Event) (r : Reply) → IsCounted s
         → Run s (before ++ (Asked e r) ∷ after) m → IsSynced e r → Crashed m c → Opened c t
         → (more : List (List Op)) × (t.opening ≡ replayed s.opening ((s.accepted ++ accepted_in (before ++ (Asked e r) ∷ [])) ++ more))
@@ -162,7 +174,8 @@ pub fn an_opening_finds_a_prefix()
         → folder_of name s.folders ≡ Some folder → folder.sure ≡ true → folder_of name t.folders ≡ Some folder }
     ensures closing { (s m t : State) → Closes s (Ok tt) m → Opened m t → (t.opening ≡ contents_now s) × (t.began ≡ last_of s) }
     ensures given_up { (s t : State) → Opened s t
-        → ((t.opening ≡ contents_now s) × (t.began ≡ last_of s)) ⊎ ((t.opening ≡ replayed s.opening (written s)) × (t.began ≡ sequence_after s.began (written s))) }
+        → ((t.opening ≡ contents_now s) × (t.began ≡ last_of s))
+        ⊎ ((t.opening ≡ replayed s.opening (written s)) × (t.began ≡ sequence_after s.began (written s))) }
 {}
 
 /// Over any lives, the opens of a store one after another, however each of them ends: the contents that the last opening

@@ -10,6 +10,7 @@ mod laws;
 mod lookups;
 mod plain;
 mod replies;
+mod restores;
 mod states;
 mod store;
 

@@ -1,21 +1,24 @@
 //! What a plain store looks up in its lists.
-ghost use Rattle.std.specs.Prelude.{◌≡◌, ◌-◌, false, List, length, map, take, drop, sum_by, IfSome, IfNone};
+ghost use Rattle.std.specs.Prelude.{◌≡◌, ◌-◌, ◌<◌, ◌++◌, ◌∷◌, [], false, OnOk, OnErr, List, length, map, take, drop, sum_by, IfSome, IfNone};
 ghost use Rattle.std.specs.Option.{option_map};
 ghost use Rattle.std.specs.Str.{bytes_eq};
 ghost use Rattle.lsm_rows.specs.declared.operations.Op.{Op};
 ghost use Rattle.lsm_model.specs.States.{pin_of, without_pin, folder_of, built_by, op_bytes, bytes_of};
 ghost use Rattle.lsm_model.specs.Causes.{is_dir, is_own, is_job, builds};
-ghost use Rattle.lsm_model.specs.Plain.{plain_folder, IsJobOf};
+ghost use Rattle.lsm_model.specs.Plain.{plain_folder, with_plain, IsJobOf};
+ghost use Rattle.std.proofs.Math.ListN.{set};
 
 use crate::{Holder, Pin};
+use lsm_bytes::NoMemory;
 use lsm_names::Folder;
 use lsm_rows::{Batch, Op};
 
-/// A finished checkpoint: it has the first so many accepted batches.
-#[derive(Drop)]
+/// A folder beside the store's own: a checkpoint, or one that was begun for a restore.
+#[derive(Clone, Copy, Drop)]
 pub struct PlainFolder {
     pub name: Folder,
-    pub batches: u64,
+    /// It has the first so many accepted batches. None where it isn't finished.
+    pub batches: Option<u64>,
 }
 
 /// Whether these are one name.
@@ -108,9 +111,10 @@ pub fn is_built(pins: &[Pin], dir: &Folder) -> bool
     false
 }
 
-/// The finished checkpoint of a name.
+/// The folder of a name.
 pub fn find_folder<'a>(folders: &'a [PlainFolder], name: &Folder) -> Option<&'a PlainFolder>
-    ensures { (accepted : List (List Op)) → option_map (λ folder. plain_folder accepted folder.now) result ≡ folder_of name.now (map (plain_folder accepted) folders.now) }
+    ensures { (accepted : List (List Op)) → option_map (λ folder. plain_folder accepted folder.now) result
+        ≡ folder_of name.now (map (plain_folder accepted) folders.now) }
 {
     for folder in folders {
         if same_name(&folder.name, name) {
@@ -118,6 +122,37 @@ pub fn find_folder<'a>(folders: &'a [PlainFolder], name: &Folder) -> Option<&'a 
         }
     }
     None
+}
+
+// Where the folder of a name stands in the list.
+fn place_of(folders: &[PlainFolder], name: &Folder) -> Option<usize>
+    ensures found { IfSome result (λ at. (at < length folders.now)
+        × ((new : PlainFolder) → new.name ≡ name.now → with_plain new folders.now ≡ set folders.now at new)) }
+    ensures none { IfNone result ((new : PlainFolder) → new.name ≡ name.now → with_plain new folders.now ≡ folders.now ++ new ∷ []) }
+{
+    for (at, folder) in folders.iter().enumerate() {
+        if same_name(&folder.name, name) {
+            return Some(at);
+        }
+    }
+    None
+}
+
+/// Puts a folder in the place of the one of its name, or at the end where there is none.
+pub fn put_folder(folders: &mut Vec<PlainFolder>, folder: PlainFolder) -> Result<(), NoMemory>
+    ensures ok { OnOk result (folders.new.items ≡ with_plain folder folders.old.items) }
+    ensures err { OnErr result (folders.new.items ≡ folders.old.items) }
+{
+    match place_of(folders, &folder.name) {
+        Some(at) => {
+            folders[at] = folder;
+            Ok(())
+        }
+        None => {
+            folders.push(folder)?;
+            Ok(())
+        }
+    }
 }
 
 /// The first so many batches, or all where there are fewer.

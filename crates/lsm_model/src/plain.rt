@@ -1,6 +1,6 @@
 //! The lists of a plain store, and a call for each event, which answers as the abstract store says. The calls have the
 //! condition that the lists fit one another; `PlainStore` keeps it for its callers.
-ghost use Rattle.std.specs.Prelude.{◌≡◌, ◌≤◌, ◌<◌, ◌+◌, ◌^◌, ◌++◌, ◌∷◌, [], ℕ, List, length, take, nat_le, MatchResult, IfOk, OnOk, OnErr, sum_by};
+ghost use Rattle.std.specs.Prelude.{◌≡◌, ◌≤◌, ◌<◌, ◌+◌, ◌^◌, ◌++◌, ◌∷◌, [], ℕ, List, length, take, nat_le, MatchResult, IfOk, OnOk, OnErr, Bool, false, Some, None, Err, min, sum_by};
 ghost use Rattle.std.specs.FinMap as finite;
 ghost use Rattle.lsm_rows.specs.Replay.{replayed, sequence_after};
 ghost use Rattle.lsm_model.specs.Plain.{state_of, empty_state, IsPlain};
@@ -12,6 +12,8 @@ ghost use Rattle.lsm_model.specs.Checkpoints.{BeginsCheckpoint, StepsCheckpoint,
 ghost use Rattle.lsm_model.specs.States.{shown_at};
 ghost use Rattle.lsm_model.specs.Causes.{pin_limit, is_taken};
 ghost use Rattle.lsm_model.specs.Steps.{Step};
+ghost use Rattle.lsm_model.specs.Refusals.{known_refusal};
+ghost use Rattle.lsm_model.specs.declared.events.Event.TheVariants.{Write};
 
 use crate::lookups::{
     PlainFolder, behind, drop_pin, find_folder, find_job, find_pin, front, has_own, is_built,
@@ -22,6 +24,7 @@ use crate::{
     Reply, Shown, Stepped, StoreError, Which,
 };
 use lsm_bytes::{Bytes, NoMemory};
+use lsm_disk::{DiskCall, Halt};
 use lsm_names::{FileName, Folder};
 use lsm_rows::{Batch, Pairs};
 use std::alloc::Global;
@@ -42,6 +45,9 @@ const PIN_LIMIT: usize = 64;
 /// How many times the deletion of files may be disabled.
 const DISABLE_LIMIT: u32 = 1_000_000;
 
+/// The log of a plain store, where one is to be named.
+const LOG: FileName = FileName::Log(1);
+
 /// From so many bytes of rows on the active ones should be frozen.
 const FREEZE_SIZE: usize = 1_048_576;
 
@@ -53,15 +59,18 @@ pub struct PlainLists {
     accepted: Vec<Batch>,
     sequence: u64,
     durable: u64,
+    doubtful: Option<Batch>,
     pins: Vec<Pin>,
     greatest_pin: u64,
-    folders: Vec<PlainFolder>,
+    pub(crate) folders: Vec<PlainFolder>,
+    pub(crate) begun: Option<Folder>,
     disables: u32,
     active: u64,
     frozen: u64,
     active_len: u64,
     frozen_len: u64,
     next: u64,
+    pub(crate) halt: Option<Halt>,
 }
 
 // One batch more, or the same batches.
@@ -74,7 +83,10 @@ fn push_batch(accepted: &mut Vec<Batch>, batch: Batch) -> Result<(), NoMemory>
 }
 
 // One folder more, or the same folders.
-fn push_folder(folders: &mut Vec<PlainFolder>, folder: PlainFolder) -> Result<(), NoMemory>
+pub(crate) fn push_folder(
+    folders: &mut Vec<PlainFolder>,
+    folder: PlainFolder,
+) -> Result<(), NoMemory>
     ensures ok { OnOk result (folders.new.items ≡ folders.old.items ++ folder ∷ []) }
     ensures err { OnErr result (folders.new.items ≡ folders.old.items) }
 {
@@ -103,15 +115,18 @@ impl PlainLists {
             accepted: Vec::new(alloc),
             sequence: 0,
             durable: 0,
+            doubtful: None,
             pins: Vec::new(alloc),
             greatest_pin: 0,
             folders: Vec::new(alloc),
+            begun: None,
             disables: 0,
             active: 0,
             frozen: 0,
             active_len: 0,
             frozen_len: 0,
             next: 1,
+            halt: None,
         }
     }
 
@@ -121,6 +136,9 @@ impl PlainLists {
         ensures step { Writes (state_of self.old) batch sync result (state_of self.new) }
         ensures plain { IsPlain self.new }
     {
+        if let Some(first) = self.halt {
+            return Err(StoreError::Halted { first });
+        }
         let count = batch.len() as u64;
         let size = batch.text_len() as u64;
         if self.sequence + count > LAST_SEQUENCE {
@@ -148,12 +166,40 @@ impl PlainLists {
         Ok(self.sequence)
     }
 
+    /// A write whose disk call fails: the batch is doubtful, and the append to the log halts the store.
+    pub fn write_failing(&mut self, batch: Batch) -> StoreError
+        requires { IsPlain self.old }
+        ensures step { (sync : Bool) → Writes (state_of self.old) batch sync (Err result) (state_of self.new) }
+        ensures fault { known_refusal (Write batch false) (state_of self.old) ≡ None → result ≡ StoreError.DiskFault }
+        ensures plain { IsPlain self.new }
+    {
+        if let Some(first) = self.halt {
+            return StoreError::Halted { first };
+        }
+        let count = batch.len() as u64;
+        if self.sequence + count > LAST_SEQUENCE {
+            return StoreError::SequenceFull {
+                last: self.sequence,
+                count: count as u32,
+            };
+        }
+        self.doubtful = Some(batch);
+        self.halt = Some(Halt {
+            call: DiskCall::Append,
+            path: self.own.file(&LOG),
+        });
+        StoreError::DiskFault
+    }
+
     /// All accepted batches are durable.
     pub fn sync_log(&mut self) -> Result<(), StoreError>
         requires { IsPlain self.old }
         ensures step { SyncsLog (state_of self.old) result (state_of self.new) }
         ensures plain { IsPlain self.new }
     {
+        if let Some(first) = self.halt {
+            return Err(StoreError::Halted { first });
+        }
         self.durable = self.accepted.as_slice().len() as u64;
         Ok(())
     }
@@ -232,6 +278,9 @@ impl PlainLists {
         ensures step { Freezes (state_of self.old) result (state_of self.new) }
         ensures plain { IsPlain self.new }
     {
+        if let Some(first) = self.halt {
+            return Err(StoreError::Halted { first });
+        }
         if self.active == 0 {
             return Ok(false);
         }
@@ -255,6 +304,9 @@ impl PlainLists {
         ensures step { StepsFlush (state_of self.old) result (state_of self.new) }
         ensures plain { IsPlain self.new }
     {
+        if let Some(first) = self.halt {
+            return Err(StoreError::Halted { first });
+        }
         if self.frozen == 0 {
             return Ok(Flushed::NoJob);
         }
@@ -268,6 +320,9 @@ impl PlainLists {
         requires { IsPlain self.now }
         ensures { BeginsCompaction (state_of self.now) which result (state_of self.now) }
     {
+        if let Some(first) = self.halt {
+            return Err(StoreError::Halted { first });
+        }
         match which {
             Which::Shape => Ok(Begun::Nothing),
             Which::All => Ok(Begun::Nothing),
@@ -279,6 +334,9 @@ impl PlainLists {
         requires { IsPlain self.now }
         ensures { (rows : ℕ) → StepsCompaction (state_of self.now) rows result (state_of self.now) }
     {
+        if let Some(first) = self.halt {
+            return Err(StoreError::Halted { first });
+        }
         Ok(Stepped::NoJob)
     }
 
@@ -287,6 +345,9 @@ impl PlainLists {
         requires { IsPlain self.now }
         ensures { Deletes (state_of self.now) result (state_of self.now) }
     {
+        if let Some(first) = self.halt {
+            return Err(StoreError::Halted { first });
+        }
         if self.disables > 0 {
             return Ok(Deleted::Disabled {
                 count: self.disables,
@@ -315,6 +376,9 @@ impl PlainLists {
         ensures step { ListsFiles (state_of self.old) flush result (state_of self.new) }
         ensures plain { IsPlain self.new }
     {
+        if let Some(first) = self.halt {
+            return Err(StoreError::Halted { first });
+        }
         if flush {
             self.active = 0;
             self.frozen = 0;
@@ -379,6 +443,9 @@ impl PlainLists {
         ensures step { Cuts (state_of self.old) rule result (state_of self.new) }
         ensures plain { IsPlain self.new }
     {
+        if let Some(first) = self.halt {
+            return Err(StoreError::Halted { first });
+        }
         if self.pins.as_slice().len() >= PIN_LIMIT {
             return Err(StoreError::PinsFull { live: 64 });
         }
@@ -406,6 +473,13 @@ impl PlainLists {
                 Ok(self.cut_of(pin, sequence))
             }
         }
+    }
+
+    // So many of the accepted batches, or all where there are fewer.
+    pub(crate) fn at_most(&self, batches: u64) -> u64
+        ensures { result ≡ min batches (length self.now.accepted.items) }
+    {
+        batches.min(self.accepted.as_slice().len() as u64)
     }
 
     // The last sequence of the first so many batches.
@@ -437,7 +511,12 @@ impl PlainLists {
             return self.shown(self.accepted.as_slice().len() as u64);
         }
         match find_folder(self.folders.as_slice(), dir) {
-            Some(folder) => self.shown(folder.batches),
+            Some(folder) => match folder.batches {
+                Some(batches) => self.shown(batches),
+                None => Err(StoreError::NoCurrent {
+                    dir: folder.name.path(),
+                }),
+            },
             None => Err(StoreError::NoFolder { dir: dir.path() }),
         }
     }
@@ -487,7 +566,7 @@ impl PlainLists {
     }
 
     // Whether a folder of this name is there.
-    fn is_taken(&self, dir: &Folder) -> bool
+    pub(crate) fn is_taken(&self, dir: &Folder) -> bool
         ensures { result ≡ is_taken dir.now (state_of self.now) }
     {
         if same_name(&self.own, dir) {
@@ -509,6 +588,9 @@ impl PlainLists {
         ensures step { BeginsCheckpoint (state_of self.old) dir log_size_for_flush result (state_of self.new) }
         ensures plain { IsPlain self.new }
     {
+        if let Some(first) = self.halt {
+            return Err(StoreError::Halted { first });
+        }
         if is_built(self.pins.as_slice(), &dir) {
             return Err(StoreError::UnderWay { dir });
         }
@@ -537,10 +619,13 @@ impl PlainLists {
         requires { IsPlain self.now }
         ensures { StepsCheckpoint (state_of self.now) pin result (state_of self.now) }
     {
-        match find_job(self.pins.as_slice(), pin) {
-            Some(job) => Ok(job.left > 0),
-            None => Err(StoreError::NoSuchPin { pin }),
+        let Some(job) = find_job(self.pins.as_slice(), pin) else {
+            return Err(StoreError::NoSuchPin { pin });
+        };
+        if let Some(first) = self.halt {
+            return Err(StoreError::Halted { first });
         }
+        Ok(job.left > 0)
     }
 
     /// The folder is there with the pin's batches, and the pin ends.
@@ -555,12 +640,15 @@ impl PlainLists {
         let taken = self.is_taken(&job.dir);
         let sequence = self.sequence_at(job.batches);
         self.end_pin(pin);
+        if let Some(first) = self.halt {
+            return Err(StoreError::Halted { first });
+        }
         if taken {
             return Err(StoreError::CheckpointExists { dir: job.dir });
         }
         let folder = PlainFolder {
             name: job.dir,
-            batches: job.batches,
+            batches: Some(job.batches),
         };
         let Ok(()) = push_folder(&mut self.folders, folder) else {
             return Err(StoreError::NoMemory);

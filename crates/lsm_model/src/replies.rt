@@ -3,7 +3,7 @@ use crate::{Cut, LiveFiles, StoreError};
 use lsm_bytes::Bytes;
 use lsm_names::FileName;
 use lsm_rows::Pairs;
-use lsm_version::Places;
+use lsm_version::Inputs;
 
 /// What a step of a flush did.
 #[derive(Clone, Copy, Debug, PartialEq, Eq)]
@@ -22,7 +22,7 @@ pub enum Begun {
     /// It is under way now.
     Started,
     /// One is under way already, with these inputs.
-    UnderWay { inputs: Places },
+    UnderWay { inputs: Inputs },
     /// No level is beyond its target; or all tables were asked for, and there is none.
     Nothing,
 }

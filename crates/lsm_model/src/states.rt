@@ -4,7 +4,7 @@ use lsm_bytes::Bytes;
 use lsm_disk::Halt;
 use lsm_names::{FileName, Folder};
 use lsm_rows::{Batch, Pairs};
-use lsm_version::Places;
+use lsm_version::Inputs;
 use std::collections::LinkedList;
 
 /// A file that a pin holds.
@@ -83,7 +83,7 @@ pub struct State {
     /// The live tables.
     pub tables: LinkedList<LiveTable>,
     /// The inputs of the compaction under way.
-    pub merging: Option<Places>,
+    pub merging: Option<Inputs>,
     /// How many tables that compaction has begun.
     pub outputs: u64,
     /// The number of the next file.

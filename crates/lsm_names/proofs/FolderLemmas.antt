@@ -25,7 +25,7 @@ first_of_folder : (name : List ℕ) → is_folder_name name ≡ true → is_smal
 unfolding is_folder_name
 first_of_folder name h = grind (arith, nat_tests)
 
-bytes_of_folder : (name : List ℕ) → is_folder_name name ≡ true → list_all is_folder_byte name ≡ true
+pub bytes_of_folder : (name : List ℕ) → is_folder_name name ≡ true → list_all is_folder_byte name ≡ true
 unfolding is_folder_name
 bytes_of_folder name h = grind (arith, nat_tests)
 

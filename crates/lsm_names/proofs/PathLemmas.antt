@@ -91,7 +91,7 @@ pub component_of_parts : (part : List ℕ) → 1 ≤ length part → length part
 unfolding is_component
 component_of_parts part long short bytes named = grind (arith, nat_tests)
 
-no_slash_byte : (byte : ℕ) → is_component_byte byte ≡ true → is_slash byte ≡ false
+pub no_slash_byte : (byte : ℕ) → is_component_byte byte ≡ true → is_slash byte ≡ false
 unfolding is_component_byte
 no_slash_byte byte h = grind (arith, nat_tests)
 
@@ -155,7 +155,7 @@ path_has_bytes (byte ∷ path) h = omega arith
 
 -- ---- the folders that they stand in
 
-no_slash : (part : List ℕ) → list_all is_component_byte part ≡ true → cut_last part ≡ None
+pub no_slash : (part : List ℕ) → list_all is_component_byte part ≡ true → cut_last part ≡ None
 no_slash [] h = refl
 no_slash (byte ∷ part) h =
     let cut = and_parts (is_component_byte byte) (list_all is_component_byte part) h in

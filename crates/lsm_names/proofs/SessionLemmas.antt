@@ -12,7 +12,7 @@ pub length_of_session : (name : List ℕ) → is_session name ≡ true → lengt
 unfolding is_session
 length_of_session name h = grind (arith, nat_tests)
 
-bytes_of_session : (name : List ℕ) → is_session name ≡ true → list_all is_session_byte name ≡ true
+pub bytes_of_session : (name : List ℕ) → is_session name ≡ true → list_all is_session_byte name ≡ true
 unfolding is_session
 bytes_of_session name h = grind (arith, nat_tests)
 

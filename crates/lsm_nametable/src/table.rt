@@ -137,7 +137,8 @@ impl NameTable {
         target: Target,
     ) -> Result<(), AllocError>
         requires there { map.get self.old from.now ≡ Some (node_of target) }
-        requires free { node_of target ≡ Folder_node → (rest : List ℕ) → under [] rest ≡ Some rest → map.get self.old (to.now ++ rest) ≡ None }
+        requires free { node_of target ≡ Folder_node → (rest : List ℕ) → under [] rest ≡ Some rest
+            → map.get self.old (to.now ++ rest) ≡ None }
         ensures ok { OnOk result (self.new ≡ renamed from.now to.now (Some (node_of target)) self.old) }
         ensures err { OnErr result (self.new ≡ self.old) }
     {
@@ -258,7 +259,8 @@ fn push_moved(
     name: Option<Vec<u8>>,
     target: Target,
 ) -> Result<(), AllocError>
-    ensures { OnOk result (shown moved.new.items ≡ shown moved.old.items ++ with_name (option_map (λ v. v.items) name) (node_of target) []) }
+    ensures { OnOk result (shown moved.new.items ≡ shown moved.old.items
+        ++ with_name (option_map (λ v. v.items) name) (node_of target) []) }
 {
     if let Some(name) = name {
         moved.push((name, target))?;
@@ -300,7 +302,8 @@ fn insert_all(
 
 /// Takes away what is in the one folder and not in the other.
 fn leave_folder(entries: &mut BTreeMap<Vec<u8>, Target>, from: &[u8], to: &[u8])
-    ensures { entries.new.entries ≡ filter (λ e. is_some (under to.now e.0.items) || is_none (under from.now e.0.items)) entries.old.entries }
+    ensures { entries.new.entries ≡ filter (λ e. is_some (under to.now e.0.items) || is_none
+        (under from.now e.0.items)) entries.old.entries }
 {
     entries.retain(
         |key: &Vec<u8>, _target: &mut Target| -> bool

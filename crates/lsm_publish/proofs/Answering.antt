@@ -32,7 +32,7 @@ Anything s t = Unit {0}
 abbrev Somewhere : State → Type 0
 Somewhere s = Unit {0}
 
-shows_anything : (I : State → Type 0) (s : State) → I s → Shows Anything s
+pub shows_anything : (I : State → Type 0) (s : State) → I s → Shows Anything s
 shows_anything I s i = record { each = λ t image. tt }
 
 module _ (temporary bytes : List ℕ) where

@@ -113,10 +113,16 @@ pub record IsLeft (Was : State → Type 0) (refusal : State → Option DiskError
 
 -- What a refused call left of the writing: a fault may have made the change, of an append a front, and any other refusal has not.
 abbrev pub WriteLeft : List ℕ → List ℕ → Old → ℕ → List ℕ → DiskCall → DiskError → State → Type 0
-WriteLeft temporary path old id bytes call.Create why s = IsLeft (λ s. LeftBy (IsBegun path old id s) (IsWriting temporary path old id new_file s) why) (no_room temporary) why s
-WriteLeft temporary path old id bytes call.Append why s = IsLeft (λ s. LeftBy (IsWriting temporary path old id new_file s) ((n : ℕ) × IsWriting temporary path old id (longer (take n bytes) new_file) s) why) never why s
-WriteLeft temporary path old id bytes call.Sync why s = IsLeft (λ s. LeftBy (IsWriting temporary path old id (longer bytes new_file) s) (IsWriting temporary path old id (written bytes) s) why) never why s
-WriteLeft temporary path old id bytes call.SyncNames why s = IsLeft (λ s. LeftBy (IsWriting temporary path old id (written bytes) s) (IsReady temporary path old id bytes s) why) never why s
+WriteLeft temporary path old id bytes call.Create why s = IsLeft
+    (λ s. LeftBy (IsBegun path old id s) (IsWriting temporary path old id new_file s) why) (no_room temporary) why s
+WriteLeft temporary path old id bytes call.Append why s = IsLeft
+    (λ s. LeftBy (IsWriting temporary path old id new_file s)
+    ((n : ℕ) × IsWriting temporary path old id (longer (take n bytes) new_file) s) why) never why s
+WriteLeft temporary path old id bytes call.Sync why s = IsLeft
+    (λ s. LeftBy (IsWriting temporary path old id (longer bytes new_file) s)
+    (IsWriting temporary path old id (written bytes) s) why) never why s
+WriteLeft temporary path old id bytes call.SyncNames why s =
+    IsLeft (λ s. LeftBy (IsWriting temporary path old id (written bytes) s) (IsReady temporary path old id bytes s) why) never why s
 WriteLeft temporary path old id bytes other why s = ⊥
 
 -- The file is written whole, or this call was refused.
@@ -126,8 +132,10 @@ Written temporary path old id bytes (Err e) s = (e.at.path ≡ temporary) × Wri
 
 -- what a refused call left of the switch
 abbrev pub SwitchLeft : List ℕ → List ℕ → Old → ℕ → List ℕ → DiskCall → DiskError → State → Type 0
-SwitchLeft temporary path old id bytes call.Rename why s = IsLeft (λ s. LeftBy (IsReady temporary path old id bytes s) (IsSwitching path old id bytes s) why) (no_rename temporary path) why s
-SwitchLeft temporary path old id bytes call.SyncNames why s = IsLeft (λ s. LeftBy (IsSwitching path old id bytes s) (IsPublished path id bytes s) why) never why s
+SwitchLeft temporary path old id bytes call.Rename why s = IsLeft
+    (λ s. LeftBy (IsReady temporary path old id bytes s) (IsSwitching path old id bytes s) why) (no_rename temporary path) why s
+SwitchLeft temporary path old id bytes call.SyncNames why s =
+    IsLeft (λ s. LeftBy (IsSwitching path old id bytes s) (IsPublished path id bytes s) why) never why s
 SwitchLeft temporary path old id bytes other why s = ⊥
 
 -- The name has the new file for good, or this call was refused.
@@ -138,13 +146,15 @@ Switched temporary path old id bytes (Err e) s = (e.at.path ≡ path) × SwitchL
 -- The name has the new file for good, or the writing or the switch was refused.
 abbrev pub Published : List ℕ → List ℕ → Old → ℕ → List ℕ → Result (Unit {0}) DiskRefusal → State → Type 0
 Published temporary path old id bytes (Ok value) s = IsPublished path id bytes s
-Published temporary path old id bytes (Err e) s = Written temporary path old id bytes (Err e) s ⊎ Switched temporary path old id bytes (Err e) s
+Published temporary path old id bytes (Err e) s = Written temporary path old id bytes (Err e) s
+    ⊎ Switched temporary path old id bytes (Err e) s
 
 -- ---- which call was refused, and by which answer
 
 -- the calls of the writing, and those of the switch
 abbrev pub write_calls : List ℕ → List Halt
-write_calls temporary = halt_at call.Create temporary ∷ halt_at call.Append temporary ∷ halt_at call.Sync temporary ∷ halt_at call.SyncNames temporary ∷ []
+write_calls temporary = halt_at call.Create temporary ∷ halt_at call.Append temporary ∷ halt_at call.Sync temporary
+    ∷ halt_at call.SyncNames temporary ∷ []
 
 abbrev pub switch_calls : List ℕ → List Halt
 switch_calls path = halt_at call.Rename path ∷ halt_at call.SyncNames path ∷ []

@@ -29,8 +29,10 @@ pub fn write_temporary<D: Disk>(
     bytes: &[u8],
 ) -> Result<(), DiskRefusal>
     // Another name has throughout what it had, and each refusal says how far the file came.
-    ensures went { (story : Story) (path : List ℕ) (old : Old) → (D.seen disk.old).told ≡ Some story → StillHas path old (state_of story) → path ≢ temporary.now
-        → Went story (D.seen disk.new).told (Writes temporary.now (length (state_of story).files)) (HasOld path old) (Written temporary.now path old (length (state_of story).files) bytes.now result) }
+    ensures went { (story : Story) (path : List ℕ) (old : Old) → (D.seen disk.old).told ≡ Some story
+        → StillHas path old (state_of story) → path ≢ temporary.now
+        → Went story (D.seen disk.new).told (Writes temporary.now (length (state_of story).files)) (HasOld path old)
+        (Written temporary.now path old (length (state_of story).files) bytes.now result) }
     ensures free { OnOk result (IfSome (D.seen disk.old).told (λ story. no_room temporary.now (state_of story) ≡ None)) }
     ensures at { IfErr result (λ r. IsAmong r.at (write_calls temporary.now)) }
     ensures answer { AnswersAs (no_room temporary.now) (D.seen disk.old) result }
@@ -58,8 +60,10 @@ pub fn write_temporary<D: Disk>(
 pub fn switch<D: Disk>(disk: &mut D, temporary: &Path, path: &Path) -> Result<(), DiskRefusal>
     // Where the file was written whole, each image on the way has under the name what it had,
     // or the new bytes.
-    ensures went { (story : Story) (old : Old) (id : ℕ) (bytes : List ℕ) → (D.seen disk.old).told ≡ Some story → IsReady temporary.now path.now old id bytes (state_of story)
-        → Went story (D.seen disk.new).told (Switches temporary.now path.now) (HasOldOrNew path.now old bytes) (Switched temporary.now path.now old id bytes result) }
+    ensures went { (story : Story) (old : Old) (id : ℕ) (bytes : List ℕ) → (D.seen disk.old).told ≡ Some story
+        → IsReady temporary.now path.now old id bytes (state_of story)
+        → Went story (D.seen disk.new).told (Switches temporary.now path.now) (HasOldOrNew path.now old bytes)
+        (Switched temporary.now path.now old id bytes result) }
     ensures at { IfErr result (λ r. IsAmong r.at (switch_calls path.now)) }
     ensures answer { AnswersAs (no_rename temporary.now path.now) (D.seen disk.old) result }
     ensures passed { PassedFirst calls.Rename (no_rename temporary.now path.now) (D.seen disk.old) result }
@@ -86,8 +90,10 @@ pub fn publish<D: Disk>(
 ) -> Result<(), DiskRefusal>
     // Where the name had a file that outlives a crash, or durably none: each image on the way
     // has under it what it had, or the new bytes, whole. After Ok each image has the new.
-    ensures went { (story : Story) (old : Old) → (D.seen disk.old).told ≡ Some story → StillHas path.now old (state_of story) → path.now ≢ temporary.now
-        → Went story (D.seen disk.new).told (Publishes temporary.now path.now (length (state_of story).files)) (HasOldOrNew path.now old bytes.now)
+    ensures went { (story : Story) (old : Old) → (D.seen disk.old).told ≡ Some story → StillHas path.now old (state_of story)
+        → path.now ≢ temporary.now
+        → Went story (D.seen disk.new).told (Publishes temporary.now path.now (length (state_of story).files))
+        (HasOldOrNew path.now old bytes.now)
         (Published temporary.now path.now old (length (state_of story).files) bytes.now result) }
     ensures free { OnOk result (IfSome (D.seen disk.old).told (λ story. no_room temporary.now (state_of story) ≡ None)) }
     ensures at { IfErr result (λ r. IsAmong r.at (publish_calls temporary.now path.now)) }
@@ -102,5 +108,6 @@ pub fn publish<D: Disk>(
 
 /// What was published is whole in each image.
 pub fn published_in_each_image()
-    ensures { (s : State) (path : List ℕ) (id : ℕ) (bytes : List ℕ) (t : Tree) → IsPublished path id bytes s → IsImage s t → bytes_at t path ≡ Some bytes }
+    ensures { (s : State) (path : List ℕ) (id : ℕ) (bytes : List ℕ) (t : Tree) → IsPublished path id bytes s → IsImage s t
+        → bytes_at t path ≡ Some bytes }
 {}

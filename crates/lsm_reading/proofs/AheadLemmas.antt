@@ -60,6 +60,3 @@ within m n h = grind (arith, nat_tests)
 
 pub less_than : (m n : ℕ) → nat_lt m n ≡ true → m < n
 less_than m n h = grind (arith, nat_tests)
-
-pub below : (m n : ℕ) → m < n → nat_lt m n ≡ true
-below m n h = grind (arith, nat_tests)

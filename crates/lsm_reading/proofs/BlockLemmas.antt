@@ -6,8 +6,7 @@ use Rattle.std.specs.List.Sorted.{IsStrictlySortedBy}
 use Rattle.std.specs.Int.{w32, to_le_bytes}
 use Rattle.std.specs.Ordering.{is_lt}
 use Rattle.std.specs.Str.{bytes_eq}
-use Rattle.std.specs.declared.cmp.Ordering.{Ordering}
-use Rattle.std.specs.declared.cmp.Ordering.TheVariants.{Less, Equal, Greater}
+use Rattle.std.specs.declared.cmp.Ordering.TheVariants.{Less}
 use Rattle.std.proofs.lemmas.List.Elements.{All-nil, All-cons, All-head, All-tail}
 use Rattle.lsm_bytes.specs.Numbers.{number_at}
 use Rattle.lsm_bytes.specs.Varint.{varint}
@@ -25,11 +24,12 @@ use Rattle.lsm_block.proofs.Readings.{few_entries}
 use Rattle.lsm_block.proofs.Restarts.{restarts_text-is, block_text-is, restarts_text-len}
 use Rattle.lsm_reading.specs.Keys.{is_internal_key}
 use Rattle.lsm_reading.specs.Blocks.{entry_ahead, entries_ahead, before_restarts, claimed_block, keys_ascend, block_fits, block_of}
-use Rattle.lsm_reading.proofs.AheadLemmas.{number_back, take_front, drop_front, at_most, within, less_than, below}
+use Rattle.lsm_reading.proofs.AheadLemmas.{number_back, take_front, drop_front, at_most, within, less_than}
 use Rattle.lsm_reading.proofs.KeyLemmas.{key_is_tested, tested_key}
 use Rattle.std.proofs.lemmas.Option.{same_Some}
 use Rattle.std.proofs.lemmas.Bool.{and_parts}
-use Rattle.lsm_block.proofs.Sought.{is_less}
+use Rattle.lsm_block.proofs.Sought.{is_less, less_is}
+use Rattle.lsm_rows.proofs.ReplayedRows.{lesser}
 
 -- ---- entries
 
@@ -104,13 +104,10 @@ entries_back (suc fuel) number before (e ∷ es) fits =
 
 -- ---- which entries make a block
 
-lower : (o : Ordering) → o ≡ Less → is_lt o ≡ true
-lower o is = ap is_lt is
-
 lower_all : (key : List ℕ) (keys : List (List ℕ)) → All (λ (later : List ℕ). internal_cmp key later ≡ Less) keys → list_all (λ (later : List ℕ). is_lt (internal_cmp key later)) keys ≡ true
 lower_all key [] all = refl
 lower_all key (k ∷ keys) all =
-    and_true _ _ (lower (internal_cmp key k) (All-head (λ (later : List ℕ). internal_cmp key later ≡ Less) k keys all))
+    and_true _ _ (less_is (internal_cmp key k) (All-head (λ (later : List ℕ). internal_cmp key later ≡ Less) k keys all))
     (lower_all key keys (All-tail (λ (later : List ℕ). internal_cmp key later ≡ Less) k keys all))
 
 all_lower : (key : List ℕ) (keys : List (List ℕ)) → list_all (λ (later : List ℕ). is_lt (internal_cmp key later)) keys ≡ true → All (λ (later : List ℕ). internal_cmp key later ≡ Less) keys
@@ -144,7 +141,7 @@ unfolding block_fits
 block_tested es is =
     and_true _ _
     (and_true _ _ (and_true _ _ (within 1 (length es) is.some) (keys_tested (keys_of es) is.entries.keys)) (ascend_tested (keys_of es) is.entries.ascend))
-    (below (length (entries_text es)) (2 ^ 32) is.entries.small)
+    (lesser (length (entries_text es)) (2 ^ 32) is.entries.small)
 
 tested_block : (es : List Entry) → block_fits es ≡ true → IsBlock es
 unfolding block_fits

@@ -25,11 +25,13 @@ use Rattle.lsm_version.specs.Reading.{with_field}
 use Rattle.lsm_version.proofs.FieldLists.{fields_make}
 use Rattle.lsm_reading.specs.Keys.{is_internal_key}
 use Rattle.lsm_reading.specs.Edits.{place_ahead, added_ahead, field_ahead, fields_ahead, claimed_edit, number_fits, place_fits, key_fits, table_fits, field_fits, comes_before, fields_fit, edit_of}
-use Rattle.lsm_reading.proofs.AheadLemmas.{number_back, sized_back, at_most, within, less_than, below}
+use Rattle.lsm_reading.proofs.AheadLemmas.{number_back, sized_back, at_most, within, less_than}
 use Rattle.lsm_reading.proofs.KeyLemmas.{user_is, key_tested, tested_key}
 use Rattle.std.proofs.lemmas.Option.{same_Some}
 use Rattle.std.proofs.lemmas.Bool.{and_parts}
 use Rattle.lsm_names.proofs.SessionLemmas.{length_of_session}
+use Rattle.lsm_rows.proofs.ReplayedRows.{lesser}
+use Rattle.lsm_version.proofs.Texts.{rest_split}
 
 -- ---- fields
 
@@ -41,10 +43,6 @@ unfolding place_text
 place_back level number rest =
     ap behind_level (ap number_ahead (append_assoc (varint level) (varint number) rest) ∙ number_back level (varint number ++ rest))
     ∙ ap (λ (n : ℕ × List ℕ). (record { level = level; number = n.0 }, n.1)) (number_back number rest)
-
-rest_split : (table : TableInfo) (x : List ℕ) → rest_text table ++ x ≡ table.session ++ (varint table.size ++ (sized table.smallest ++ (sized table.largest ++ x)))
-unfolding rest_text
-rest_split table x = simp append_assoc
 
 module _ (add : Add) (rest : List ℕ) (twenty : length add.table.session ≡ 20) where
   abbrev table : TableInfo
@@ -154,7 +152,7 @@ fitting_key bytes h =
 
 table_tested : (table : TableInfo) → IsTable table → table_fits table ≡ true
 table_tested table is =
-    and_true _ _ (and_true _ _ (and_true _ _ is.session (below table.size (2 ^ 64) is.size)) (key_fits_so table.smallest is.smallest)) (key_fits_so table.largest is.largest)
+    and_true _ _ (and_true _ _ (and_true _ _ is.session (lesser table.size (2 ^ 64) is.size)) (key_fits_so table.smallest is.smallest)) (key_fits_so table.largest is.largest)
 
 tested_table : (table : TableInfo) → table_fits table ≡ true → IsTable table
 tested_table table h =
@@ -168,8 +166,8 @@ tested_table table h =
 field_tested : (field : Field) → InRange field → field_fits field ≡ true
 unfolding field_fits InRange
 field_tested (LogNumber n) is = number_tested n is
-field_tested (NextNumber n) is = and_true _ _ (within 1 n is.0) (below n (2 ^ 56) is.1)
-field_tested (LastSequence n) is = below n (2 ^ 56) is
+field_tested (NextNumber n) is = and_true _ _ (within 1 n is.0) (lesser n (2 ^ 56) is.1)
+field_tested (LastSequence n) is = lesser n (2 ^ 56) is
 field_tested (Added add) is = and_true _ _ (place_tested add.level add.table.number is.0) (table_tested add.table is.1)
 field_tested (Dropped place) is = place_tested place.level place.number is
 
@@ -195,18 +193,18 @@ or_cases : (a b : Bool) → (a || b) ≡ true → (a ≡ true) ⊎ (b ≡ true)
 or_cases true b h = inl refl
 or_cases false b h = inr h
 
-same_number : (m n : ℕ) → m ≡ n → (m == n) ≡ true
-same_number m n is = grind (arith, nat_tests)
-
 number_same : (m n : ℕ) → (m == n) ≡ true → m ≡ n
 number_same m n is = grind (arith, nat_tests)
 
+same_number : (m n : ℕ) → m ≡ n → (m == n) ≡ true
+same_number m n is = grind (arith, nat_tests)
+
 before_tested : (a b : Rank) → Before a b → comes_before a b ≡ true
 unfolding Before comes_before
-before_tested a b (inl tag) = or_left _ _ (below a.tag b.tag tag)
-before_tested a b (inr (tag, inl level)) = or_right _ _ (and_true _ _ (same_number a.tag b.tag tag) (or_left _ _ (below a.level b.level level)))
+before_tested a b (inl tag) = or_left _ _ (lesser a.tag b.tag tag)
+before_tested a b (inr (tag, inl level)) = or_right _ _ (and_true _ _ (same_number a.tag b.tag tag) (or_left _ _ (lesser a.level b.level level)))
 before_tested a b (inr (tag, inr (level, number))) =
-    or_right _ _ (and_true _ _ (same_number a.tag b.tag tag) (or_right _ _ (and_true _ _ (same_number a.level b.level level) (below a.number b.number number))))
+    or_right _ _ (and_true _ _ (same_number a.tag b.tag tag) (or_right _ _ (and_true _ _ (same_number a.level b.level level) (lesser a.number b.number number))))
 
 number_after : (a b : Rank) → a.tag ≡ b.tag → (nat_lt a.level b.level ≡ true) ⊎ ((a.level == b.level && nat_lt a.number b.number) ≡ true) → Before a b
 unfolding Before

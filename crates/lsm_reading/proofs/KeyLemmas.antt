@@ -9,8 +9,9 @@ use Rattle.lsm_rows.proofs.InternalOrder.{trailer_of, user_key_of, kind_small}
 use Rattle.lsm_folder.proofs.NameLemmas.{same_text, equal_texts, and_true}
 use Rattle.lsm_block.specs.Blocks.{IsKey}
 use Rattle.lsm_reading.specs.Keys.{is_internal_key}
-use Rattle.lsm_reading.proofs.AheadLemmas.{at_most, within, less_than, below}
+use Rattle.lsm_reading.proofs.AheadLemmas.{at_most, within, less_than}
 use Rattle.std.proofs.lemmas.Bool.{and_parts}
+use Rattle.lsm_rows.proofs.ReplayedRows.{lesser}
 
 module _ (bytes user : List ℕ) (sequence : ℕ) (kind : Kind) (is : IsInternalKey bytes user sequence kind) where
   number_is : trailer bytes ≡ sequence * 256 + kind_byte kind
@@ -33,7 +34,7 @@ module _ (bytes user : List ℕ) (sequence : ℕ) (kind : Kind) (is : IsInternal
       let low : trailer bytes / 256 < 2 ^ 56 = omega (arith, sequence_is, is.below) in
       let kind_low : trailer bytes % 256 ≤ 1 = omega (arith, byte_is, kind_small kind) in
       let text : internal_key (user_key bytes) (trailer bytes / 256) (trailer bytes % 256) ≡ bytes = (λ i. internal_key (user_is i) (sequence_is i) (byte_is i)) ∙ sym is.is in
-      and_true _ _ (and_true _ _ (below (trailer bytes / 256) (2 ^ 56) low) (within (trailer bytes % 256) 1 kind_low)) (ap (bytes_eq bytes) text ∙ same_text bytes)
+      and_true _ _ (and_true _ _ (lesser (trailer bytes / 256) (2 ^ 56) low) (within (trailer bytes % 256) 1 kind_low)) (ap (bytes_eq bytes) text ∙ same_text bytes)
 
 pub key_is_tested : (bytes : List ℕ) → IsKey bytes → is_internal_key bytes ≡ true
 key_is_tested bytes key = key_tested bytes key.user key.sequence key.kind key.is

@@ -12,3 +12,4 @@ pub mod PlainLemmas
 pub mod SaidLemmas
 pub mod StandingLemmas
 pub mod TableLemmas
+pub mod WalkLemmas

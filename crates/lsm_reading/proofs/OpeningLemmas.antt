@@ -1,7 +1,6 @@
 -- A table that isn't opened is refused for the fault of its opening.
-use Rattle.std.specs.Prelude.{◌≡◌, ◌⊎◌, ℕ, Bool, true, false, cond, ◌&&◌, ◌==◌, nat_lt, ◌^◌, List, [], ◌∷◌, ◌++◌, length, All, Option, Some, None, Result, Ok, Err}
-use Rattle.std.proofs.Common.{inl, inr, refl, sym, ap, subst, ◌∙◌, arith}
-use Rattle.std.proofs.lemmas.Bool.Decides.{nat_tests}
+use Rattle.std.specs.Prelude.{◌≡◌, ◌⊎◌, ℕ, true, false, cond, ◌&&◌, nat_lt, ◌^◌, List, [], ◌∷◌, ◌++◌, length, All, Option, Some, None, Result, Ok, Err}
+use Rattle.std.proofs.Common.{inl, inr, refl, sym, ap, subst, ◌∙◌}
 use Rattle.std.proofs.lemmas.List.Elements.{All-nil, All-cons, All-head, All-tail}
 use Rattle.std.specs.Str.{bytes_eq}
 use Rattle.lsm_bytes.specs.Varint.{varint}
@@ -13,18 +12,19 @@ use Rattle.lsm_block.specs.declared.entries.Entry.{Entry}
 use Rattle.lsm_table.specs.declared.faults.TableFault.{TableFault}
 use Rattle.lsm_table.specs.declared.faults.TableFault.TheVariants as table
 use Rattle.lsm_table.specs.declared.parts.Properties.{Properties}
-use Rattle.lsm_table.specs.Opening.{footer_of, contents_at, properties_at, TellsPlace, TellsBlock, IsIndexText, IsFaultOf, IsIndexFault, IsPartFault, IsPropertiesFault, IsRefused, IsOutside}
+use Rattle.lsm_table.specs.Opening.{footer_of, contents_at, properties_at, TellsPlace, TellsBlock, IsIndexText, IsIndexFault, IsPartFault, IsPropertiesFault, IsRefused, IsOutside}
 use Rattle.lsm_version.specs.declared.tables.TableInfo.{TableInfo}
 use Rattle.lsm_reading.specs.declared.refusals.Refusal.{Refusal}
-use Rattle.lsm_reading.specs.declared.refusals.Refusal.TheVariants.{Short, Malformed}
+use Rattle.lsm_reading.specs.declared.refusals.Refusal.TheVariants.{Malformed}
 use Rattle.lsm_reading.specs.Blocks.{block_of}
 use Rattle.lsm_reading.specs.Steps.{◌>>=◌, some_or, table_says}
 use Rattle.lsm_reading.specs.Tables.{Told, told_in, with_told, all_told, told_by_block, index_of, TableRead, table_rows_in, table_in, table_said}
 use Rattle.lsm_reading.proofs.AheadLemmas.{less_than}
 use Rattle.lsm_reading.proofs.BlockLemmas.{block_back, block_only}
-use Rattle.lsm_reading.proofs.TableLemmas.{told_back}
+use Rattle.lsm_reading.proofs.TableLemmas.{told_back, said_at_size}
 use Rattle.std.proofs.lemmas.Option.{same_Some}
 use Rattle.std.proofs.lemmas.Bool.{and_parts}
+use Rattle.lsm_table.proofs.WholeTables.{fault_is}
 
 -- ---- an index that tells data blocks
 
@@ -50,7 +50,7 @@ pub record IsToldFirst (one : Option Told) (rest : Option (List Told)) : Type 0 
   pub one_is : one ≡ Some first
   pub rest_is : rest ≡ Some more
 
-told_first : (one : Option Told) (rest : Option (List Told)) (all : List Told) → with_told one rest ≡ Some all → IsToldFirst one rest
+pub told_first : (one : Option Told) (rest : Option (List Told)) (all : List Told) → with_told one rest ≡ Some all → IsToldFirst one rest
 told_first None rest all is = cc
 told_first (Some first) None all is = cc
 told_first (Some first) (Some more) all is = record { first = first; more = more; one_is = refl; rest_is = refl }
@@ -65,7 +65,7 @@ pub record AreTold (es : List Entry) : Type 0 where
   pub all : List Told
   pub is : all_told es ≡ Some all
 
-told_all : (es : List Entry) → All TellsBlock es → AreTold es
+pub told_all : (es : List Entry) → All TellsBlock es → AreTold es
 told_all [] each = record { all = []; is = refl }
 told_all (e ∷ es) each =
     let first : TellsBlock e = All-head TellsBlock e es each in
@@ -98,14 +98,7 @@ index_there contents es is =
 
 -- ---- the first fault
 
-fault_is : {A : Type 0} (read : Result A TableFault) (fault : TableFault) → IsFaultOf read fault → (IsOutside fault → ⊥) → read ≡ Err fault
-unfolding IsFaultOf IsOutside
-fault_is read table.ReadFault is inside = absurd (inside tt)
-fault_is read (table.Damaged place kept found) is inside = is
-fault_is read (table.Malformed place) is inside = is
-fault_is read table.NoMemory is inside = absurd (inside tt)
-
-stops : {A B : Type 0} (name : FileName) (fault : TableFault) (f : A → Result B Refusal) → (table_says name (Err fault) >>= f) ≡ table_says name (Err fault)
+pub stops : {A B : Type 0} (name : FileName) (fault : TableFault) (f : A → Result B Refusal) → (table_says name (Err fault) >>= f) ≡ table_says name (Err fault)
 stops name table.ReadFault f = refl
 stops name (table.Damaged place kept found) f = refl
 stops name (table.Malformed place) f = refl
@@ -166,13 +159,10 @@ module _ (number : ℕ) (info : TableInfo) (bytes : List ℕ) where
         ∙ ap (λ (r : Result Properties TableFault). table_says (Table number) r >>= λ (found : Properties). table_rows_in number info bytes found properties_place index.all) (fault_is (properties_at properties_place bytes) fault wrong.fault_is inside)
         ∙ stops (Table number) fault (λ (found : Properties). table_rows_in number info bytes found properties_place index.all)
 
-  in_refused : (fault : TableFault) → IsRefused bytes fault → (IsOutside fault → ⊥) → table_in number info bytes ≡ refused fault
+  pub in_refused : (fault : TableFault) → IsRefused bytes fault → (IsOutside fault → ⊥) → table_in number info bytes ≡ refused fault
   in_refused fault (inl footer) inside = footer_refused fault (fault_is (footer_of bytes) fault footer inside)
   in_refused fault (inr part) inside = part_refused fault part inside part.fault_is
 
   -- a table of the size that the version has
   pub opening_refused : (fault : TableFault) → length bytes ≡ info.size → IsRefused bytes fault → (IsOutside fault → ⊥) → table_said number info bytes ≡ refused fault
-  unfolding table_said
-  opening_refused fault size is inside =
-      let test : (length bytes == info.size) ≡ true = grind (arith, nat_tests) in
-      ap (λ (b : Bool). cond b (table_in number info bytes) (Err (Short (Table number) info.size (length bytes)))) test ∙ in_refused fault is inside
+  opening_refused fault size is inside = said_at_size number info bytes size ∙ in_refused fault is inside

@@ -74,7 +74,7 @@ same_edit text edit h =
 
 -- ---- what such edits come to
 
-no_entries : finmap.entries empty_version ≡ []
+pub no_entries : finmap.entries empty_version ≡ []
 no_entries =
     ap finmap.entries (finmap.same_map nat_cmp_total finmap.nat_cmp-IsAntisymmetric empty_version (finmap.from_entries {R = nat_cmp} [])
     (λ number. finmap.get-empty nat_cmp number ∙ sym (finmap.get-from_entries nat_cmp_total [] number)))

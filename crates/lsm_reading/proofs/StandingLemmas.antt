@@ -10,11 +10,10 @@ use Rattle.std.specs.Cmp.{nat_cmp_total}
 use Rattle.std.specs.FinMap as finmap
 use Rattle.std.specs.FinMap.Entries.{below_all, is_sorted}
 use Rattle.lsm_rows.specs.declared.operations.Op.{Op}
-use Rattle.lsm_rows.specs.declared.operations.Op.TheVariants.{Put, Delete}
 use Rattle.lsm_rows.specs.declared.rows.Row.{Row}
 use Rattle.lsm_rows.specs.Contents.{contents_of}
 use Rattle.lsm_rows.specs.Replay.{sequence_after}
-use Rattle.lsm_rows.specs.Rows.{row_of, batch_rows, rows_of}
+use Rattle.lsm_rows.specs.Rows.{batch_rows, rows_of}
 use Rattle.lsm_folder.specs.Files.{Files}
 use Rattle.lsm_folder.specs.Reading.{AllRows}
 use Rattle.lsm_folder.proofs.LiveLemmas.{equal_number}
@@ -23,7 +22,7 @@ use Rattle.lsm_version.specs.declared.tables.Placed.{Placed}
 use Rattle.lsm_version.specs.Levels.{Tables, IsLeveled}
 use Rattle.lsm_reading.specs.declared.refusals.Refusal.{Refusal}
 use Rattle.lsm_reading.specs.Manifests.{tables_after, last_after}
-use Rattle.lsm_reading.specs.Needed.{IsAsListed, rows_at, rows_by, rows_of_table, sequences, Lawful, Stands}
+use Rattle.lsm_reading.specs.Needed.{HasTable, IsAsListed, rows_at, rows_by, rows_of_table, sequences, Lawful, Stands}
 use Rattle.lsm_reading.specs.Parts.{HasParts, AreLawful, rows_of_tables, rows_of_all, all_of}
 use Rattle.lsm_reading.specs.Steps.{◌>>=◌}
 use Rattle.lsm_reading.specs.Reading.{Texts, texts_in, rows_in}
@@ -150,6 +149,11 @@ module _ (files : Files) (edits : List Edit) (rows : ℕ → List Row) (logs : f
     leveled = λ others is.
         let same : found ≡ others = ok_once (texts_in files) found others (texts_are files edits rows logs batches has) is in
         subst (λ (t : Texts). IsLeveled (tables_after t.edits) (rows_of_table t)) same leveled;
+    whole = λ others number placed is there.
+        let same : found ≡ others = ok_once (texts_in files) found others (texts_are files edits rows logs batches has) is in
+        let here : finmap.get tables number ≡ Some placed = ap (λ (t : Texts). finmap.get (tables_after t.edits) number) same ∙ there in
+        subst (λ (t : Texts). HasTable files number placed (rows_of_table t number)) same
+        (subst (λ (l : List Row). HasTable files number placed l) (rows_there number placed here) (has.tables number placed here));
     listed = λ others number placed is there.
         let same : found ≡ others = ok_once (texts_in files) found others (texts_are files edits rows logs batches has) is in
         let here : finmap.get tables number ≡ Some placed = ap (λ (t : Texts). finmap.get (tables_after t.edits) number) same ∙ there in

@@ -18,8 +18,11 @@ unfoldable pub entry_ahead : List ℕ → List ℕ → Entry × List ℕ
 entry_ahead before bytes =
     let shared : ℕ × List ℕ = number_ahead bytes in
     let rest : ℕ × List ℕ = number_ahead shared.1 in
-    let value : ℕ × List ℕ = number_ahead rest.1 in
-    (record { key = take shared.0 before ++ take rest.0 value.1; value = take value.0 (drop rest.0 value.1) }, drop value.0 (drop rest.0 value.1))
+    let value : ℕ × List ℕ = number_ahead rest.1 in (
+      record { key = take shared.0 before ++ take rest.0 value.1; value = take value.0 (drop rest.0 value.1) },
+      drop value.0
+          (drop rest.0 value.1),
+    )
 
 -- the entries that bytes are behind this key, so many at most
 abbrev pub entries_ahead : ℕ → List ℕ → List ℕ → List Entry
@@ -43,7 +46,8 @@ keys_ascend (key ∷ keys) = list_all (λ (later : List ℕ). is_lt (internal_cm
 
 -- the entries are those of a block
 unfoldable pub block_fits : List Entry → Bool
-block_fits es = nat_le 1 (length es) && list_all is_internal_key (keys_of es) && keys_ascend (keys_of es) && nat_lt (length (entries_text es)) (2 ^ 32)
+block_fits es = nat_le 1 (length es) && list_all is_internal_key (keys_of es) && keys_ascend (keys_of es) && nat_lt
+    (length (entries_text es)) (2 ^ 32)
 
 -- the entries of the block whose contents these bytes are
 unfoldable pub block_of : List ℕ → Option (List Entry)

@@ -31,7 +31,13 @@ added_ahead place =
     let size : ℕ × List ℕ = number_ahead (drop 20 place.1) in
     let smallest : List ℕ × List ℕ = sized_ahead size.1 in
     let largest : List ℕ × List ℕ = sized_ahead smallest.1 in
-    let table : TableInfo = record { number = place.0.number; session = take 20 place.1; size = size.0; smallest = smallest.0; largest = largest.0 } in
+    let table : TableInfo = record {
+      number = place.0.number;
+      session = take 20 place.1;
+      size = size.0;
+      smallest = smallest.0;
+      largest = largest.0;
+    } in
     (Added (record { level = place.0.level; table = table }), largest.1)
 
 -- the field that bytes begin with, and the bytes behind it
@@ -52,7 +58,8 @@ fields_ahead (suc more) (b ∷ bytes) = (field_ahead (b ∷ bytes)).0 ∷ fields
 
 -- the edit that a text claims to be
 unfoldable pub claimed_edit : List ℕ → Edit
-claimed_edit text = fold with_field (record { log = None; next = None; last = None; adds = []; drops = [] }) (fields_ahead (length text) text)
+claimed_edit text = fold with_field (record { log = None; next = None; last = None; adds = []; drops = [] })
+    (fields_ahead (length text) text)
 
 -- ---- which edits there are, as a test
 

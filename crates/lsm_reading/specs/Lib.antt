@@ -8,3 +8,4 @@ pub mod Plain
 pub mod Reading
 pub mod Steps
 pub mod Tables
+pub mod Walks

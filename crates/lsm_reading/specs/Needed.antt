@@ -1,5 +1,5 @@
 -- What a folder needs, and when it stands for some contents.
-use Rattle.std.specs.Prelude.{◌≡◌, ◌⊎◌, ℕ, ◌≤◌, nat_eq, List, [], ◌∷◌, ◌++◌, map, All, Contains, Option, Some, None, Result, Ok, Err}
+use Rattle.std.specs.Prelude.{◌≡◌, ◌⊎◌, ℕ, ◌≤◌, nat_eq, List, [], ◌∷◌, ◌++◌, length, map, All, Contains, Option, Some, None, Result, Ok, Err}
 use Rattle.std.specs.List.{IsDistinct}
 use Rattle.std.specs.FinMap as finmap
 use Rattle.lsm_names.specs.declared.file_names.FileName.{FileName}
@@ -11,6 +11,7 @@ use Rattle.lsm_block.specs.TableText.{row_entry}
 use Rattle.lsm_folder.specs.Files.{Files, Stands_with, file_at}
 use Rattle.lsm_folder.specs.Reading.{AllRows, live_logs}
 pub use Rattle.lsm_folder.specs.Needed.{IsFresh, sequences}
+use Rattle.lsm_table.specs.WholeTables.{IsTable}
 use Rattle.lsm_version.specs.declared.edits.Edit.{Edit}
 use Rattle.lsm_version.specs.declared.tables.Placed.{Placed}
 use Rattle.lsm_version.specs.declared.tables.TableInfo.{TableInfo}
@@ -66,6 +67,13 @@ rows_by (Some table) = table.rows
 abbrev pub rows_of_table : Texts → ℕ → List Row
 rows_of_table texts number = rows_by (finmap.get texts.tables number)
 
+-- the table of this number is there whole, with these rows, and with the session and the size that the version has
+pub record HasTable (files : Files) (number : ℕ) (placed : Placed) (rows : List Row) : Type 0 where
+  pub bytes : List ℕ
+  pub there : file_at files (Table number) ≡ Some bytes
+  pub table : IsTable bytes rows number placed.info.session
+  pub size : length bytes ≡ placed.info.size
+
 -- The version's keys of a table are those of its first and its last row, and its rows have sequences from 1 to the last one.
 pub record IsAsListed (info : TableInfo) (rows : List Row) (last : ℕ) : Type 0 where
   pub first : Row
@@ -75,10 +83,15 @@ pub record IsAsListed (info : TableInfo) (rows : List Row) (last : ℕ) : Type 0
   pub largest : info.largest ≡ last_key (map row_entry rows)
   pub sequences : All (λ (row : Row). (1 ≤ row.sequence) × (row.sequence ≤ last)) rows
 
--- Levels are in order, each table is as its version lists it, and no two rows have one sequence.
+-- Levels are in order; each table's bytes are the text of its rows, so that it can be searched by its index; each is as its
+-- version lists it; and no two rows have one sequence.
 pub record Lawful (files : Files) : Type 0 where
   pub leveled : (texts : Texts) → texts_in files ≡ Ok texts → IsLeveled (tables_after texts.edits) (rows_of_table texts)
-  pub listed : (texts : Texts) (number : ℕ) (placed : Placed) → texts_in files ≡ Ok texts → finmap.get (tables_after texts.edits) number ≡ Some placed
+  pub whole : (texts : Texts) (number : ℕ) (placed : Placed) → texts_in files ≡ Ok texts
+      → finmap.get (tables_after texts.edits) number ≡ Some placed
+      → HasTable files number placed (rows_of_table texts number)
+  pub listed : (texts : Texts) (number : ℕ) (placed : Placed) → texts_in files ≡ Ok texts
+      → finmap.get (tables_after texts.edits) number ≡ Some placed
       → IsAsListed placed.info (rows_of_table texts number) (last_after texts.edits)
   pub distinct : (all : AllRows) → rows_at files ≡ Ok all → IsDistinct nat_eq (sequences all.rows)
 

@@ -1,10 +1,10 @@
 -- What the parts of a folder say, each by itself, so that the folder reads as a store that keeps them says.
-use Rattle.std.specs.Prelude.{◌≡◌, ℕ, ◌+◌, ◌≤◌, nat_eq, Bool, true, false, List, [], ◌∷◌, ◌++◌, map, length, All, Option, Some, None, Ok}
+use Rattle.std.specs.Prelude.{◌≡◌, ℕ, ◌+◌, ◌≤◌, nat_eq, Bool, true, false, List, [], ◌∷◌, ◌++◌, map, All, Option, Some, None, Ok}
 use Rattle.std.specs.List.{flat_map, IsDistinct}
 use Rattle.std.specs.Ordering.{nat_cmp}
 use Rattle.std.specs.FinMap as finmap
 use Rattle.lsm_names.specs.declared.file_names.FileName.{FileName}
-use Rattle.lsm_names.specs.declared.file_names.FileName.TheVariants.{Log, Table, Manifest, Current}
+use Rattle.lsm_names.specs.declared.file_names.FileName.TheVariants.{Log, Manifest, Current}
 use Rattle.lsm_names.specs.FileNames.{is_file_number}
 use Rattle.lsm_rows.specs.declared.operations.Op.{Op}
 use Rattle.lsm_rows.specs.declared.rows.Row.{Row}
@@ -17,7 +17,6 @@ use Rattle.lsm_wal.specs.Reading.{At_end, IsReading, open_end}
 use Rattle.lsm_folder.specs.Files.{Files, file_at}
 use Rattle.lsm_folder.specs.Names.{current_text}
 use Rattle.lsm_folder.specs.Reading.{is_empty}
-use Rattle.lsm_table.specs.WholeTables.{IsTable}
 use Rattle.lsm_version.specs.declared.edits.Edit.{Edit}
 use Rattle.lsm_version.specs.declared.tables.Placed.{Placed}
 use Rattle.lsm_version.specs.EditText.{edit_text}
@@ -25,6 +24,7 @@ use Rattle.lsm_version.specs.Edits.{IsEdit}
 use Rattle.lsm_version.specs.Levels.{Tables, IsLeveled}
 use Rattle.lsm_version.specs.Versions.{version_after}
 use Rattle.lsm_reading.specs.Manifests.{may_follow, tables_after, log_after, last_after}
+pub use Rattle.lsm_reading.specs.Needed.{HasTable}
 use Rattle.lsm_reading.specs.Needed.{IsAsListed, needed_tables, sequences}
 
 -- ---- the manifest
@@ -55,14 +55,7 @@ pub record IsManifest (text : List ℕ) (edits : List Edit) : Type 0 where
   pub records : front text ≡ map edit_text edits
   pub ends : IsOpen (end_of text)
 
--- ---- tables and logs
-
--- the table of this number is there whole, with these rows, and with the session and the size that the version has
-pub record HasTable (files : Files) (number : ℕ) (placed : Placed) (rows : List Row) : Type 0 where
-  pub bytes : List ℕ
-  pub there : file_at files (Table number) ≡ Some bytes
-  pub table : IsTable bytes rows number placed.info.session
-  pub size : length bytes ≡ placed.info.size
+-- ---- logs
 
 -- from a number on the folder has these logs, by their numbers, with these bytes, and no others
 pub record HasLogs (files : Files) (least : ℕ) (logs : finmap.FinMap nat_cmp (List ℕ)) : Type 0 where
@@ -85,20 +78,23 @@ unfoldable pub AreLogs : ℕ → List (ℕ × List ℕ) → List (List (List Op)
 AreLogs expected [] [] = Unit {0}
 AreLogs expected [] (batches ∷ more) = ⊥
 AreLogs expected (log ∷ logs) [] = ⊥
-AreLogs expected (log ∷ logs) (batches ∷ more) = IsLog (is_empty logs) expected log.1 batches × AreLogs (sequence_after expected batches) logs more
+AreLogs expected (log ∷ logs) (batches ∷ more) = IsLog (is_empty logs) expected log.1 batches
+    × AreLogs (sequence_after expected batches) logs more
 
 -- ---- all parts
 
 -- The parts of a folder: CURRENT names the manifest of these edits; each live table has its rows; and the logs, from the log
 -- number on, read to these batches, which go on behind the last sequence in tables.
-pub record HasParts (files : Files) (edits : List Edit) (rows : ℕ → List Row) (logs : finmap.FinMap nat_cmp (List ℕ)) (batches : List (List (List Op))) : Type 0 where
+pub record HasParts (files : Files) (edits : List Edit) (rows : ℕ → List Row) (logs : finmap.FinMap nat_cmp (List ℕ))
+    (batches : List (List (List Op))) : Type 0 where
   pub manifest : ℕ
   pub numbered : is_file_number manifest ≡ true
   pub current : file_at files Current ≡ Some (current_text manifest)
   pub text : List ℕ
   pub there : file_at files (Manifest manifest) ≡ Some text
   pub edits_are : IsManifest text edits
-  pub tables : (number : ℕ) (placed : Placed) → finmap.get (tables_after edits) number ≡ Some placed → HasTable files number placed (rows number)
+  pub tables : (number : ℕ) (placed : Placed) → finmap.get (tables_after edits) number ≡ Some placed
+      → HasTable files number placed (rows number)
   pub has_logs : HasLogs files (log_after edits) logs
   pub logs_are : AreLogs (last_after edits + 1) (finmap.entries logs) batches
 
@@ -123,5 +119,6 @@ rows_of_all edits rows batches = rows_of_tables (tables_after edits) rows ++ row
 -- come behind the last sequence in tables, each behind the one before it.
 pub record AreLawful (edits : List Edit) (rows : ℕ → List Row) : Type 0 where
   pub leveled : IsLeveled (tables_after edits) rows
-  pub listed : (number : ℕ) (placed : Placed) → finmap.get (tables_after edits) number ≡ Some placed → IsAsListed placed.info (rows number) (last_after edits)
+  pub listed : (number : ℕ) (placed : Placed) → finmap.get (tables_after edits) number ≡ Some placed
+      → IsAsListed placed.info (rows number) (last_after edits)
   pub distinct : IsDistinct nat_eq (sequences (rows_of_tables (tables_after edits) rows))

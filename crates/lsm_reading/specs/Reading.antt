@@ -82,7 +82,10 @@ table_rows tables = flat_map (λ (table : ℕ × TableRead). table.1.rows) (finm
 unfoldable pub rows_in : Texts → Result AllRows Refusal
 rows_in texts = do
   batches ← as_read (plain.all_batches (last_after texts.edits + 1) (finmap.entries texts.logs))
-  Ok (record { sequence = sequence_after (last_after texts.edits) batches; rows = table_rows texts.tables ++ rows_of (last_after texts.edits + 1) batches })
+  Ok (record {
+    sequence = sequence_after (last_after texts.edits) batches;
+    rows = table_rows texts.tables ++ rows_of (last_after texts.edits + 1) batches;
+  })
 
 -- what texts show: the contents that all rows stand for
 abbrev pub read : Texts → Result Shown Refusal

@@ -26,7 +26,8 @@ unfoldable pub told_in : List ℕ → Option Told
 told_in value =
     let place : ℕ × List ℕ = number_ahead value in
     let len : ℕ × List ℕ = number_ahead place.1 in
-    if nat_lt place.0 (2 ^ 64) && nat_lt len.0 (2 ^ 64) && bytes_eq value (varint place.0 ++ varint len.0) then Some (record { place = place.0; len = len.0 }) else None
+    if nat_lt place.0 (2 ^ 64) && nat_lt len.0 (2 ^ 64) && bytes_eq value (varint place.0 ++ varint len.0)
+    then Some (record { place = place.0; len = len.0 }) else None
 
 -- what an entry tells, before what the others do
 abbrev pub with_told : Option Told → Option (List Told) → Option (List Told)
@@ -51,7 +52,8 @@ index_of contents = told_by_block (block_of contents)
 unfoldable pub data_block : FileName → List ℕ → Told → Result (List Entry) Refusal
 data_block name bytes told =
     if nat_lt (length bytes) (told.place + told.len + 5) then Err (Malformed name told.place)
-    else (table_says name (contents_at told.place told.len bytes) >>= λ (contents : List ℕ). some_or (Malformed name told.place) (block_of contents))
+    else (table_says name (contents_at told.place told.len bytes) >>= λ (contents : List ℕ). some_or
+    (Malformed name told.place) (block_of contents))
 
 -- the rows of the data blocks that are told, in turn
 abbrev pub rows_told : FileName → List ℕ → List Told → Result (List Row) Refusal
@@ -87,4 +89,5 @@ table_in number info bytes = do
 
 -- the same, where the bytes are as many as the version says
 unfoldable pub table_said : ℕ → TableInfo → List ℕ → Result TableRead Refusal
-table_said number info bytes = if length bytes == info.size then table_in number info bytes else Err (Short (Table number) info.size (length bytes))
+table_said number info bytes = if length bytes == info.size then table_in number info bytes
+    else Err (Short (Table number) info.size (length bytes))

@@ -1,5 +1,5 @@
 //! Laws of the definitions that contracts cite. The functions do nothing: their contracts are the laws.
-ghost use Rattle.std.specs.Prelude.{◌≡◌, ◌⊎◌, ℕ, ◌+◌, ◌≤◌, List, length, take, Option, Some, None, Ok, Err};
+ghost use Rattle.std.specs.Prelude.{◌≡◌, ◌≢◌, ◌⊎◌, ℕ, ◌+◌, ◌-◌, ◌≤◌, true, false, List, [], ◌++◌, map, length, take, Option, Some, None, Ok, Err};
 ghost use Rattle.std.specs.Ordering.{nat_cmp};
 ghost use Rattle.std.specs.FinMap as finmap;
 ghost use Rattle.lsm_names.specs.declared.file_names.FileName.{FileName};
@@ -15,12 +15,15 @@ ghost use Rattle.lsm_folder.specs.declared.refusals.Refusal as folder;
 ghost use Rattle.lsm_folder.specs.Files.{Files, Place, Stands_with};
 ghost use Rattle.lsm_folder.specs.Reading as plain;
 ghost use Rattle.lsm_table.specs.declared.faults.TableFault.{TableFault};
-ghost use Rattle.lsm_table.specs.Opening.{IsRefused, IsOutside};
+ghost use Rattle.lsm_table.specs.Opening.{Opens, IsRefused, IsOutside};
+ghost use Rattle.lsm_table.specs.declared.parts.Properties.{Properties};
+ghost use Rattle.lsm_table.specs.DataBlocks.{IsNthBlock, IsNthFault};
+ghost use Rattle.lsm_table.specs.Rows.{row_at};
 ghost use Rattle.lsm_table.specs.WholeTables.{IsTable};
 ghost use Rattle.lsm_version.specs.declared.edits.Edit.{Edit};
 ghost use Rattle.lsm_version.specs.declared.tables.TableInfo.{TableInfo};
 ghost use Rattle.lsm_version.specs.Edits.{IsEditText};
-ghost use Rattle.lsm_reading.specs.declared.refusals.Refusal.TheVariants.{NoFolder, NoCurrent};
+ghost use Rattle.lsm_reading.specs.declared.refusals.Refusal.TheVariants.{NoFolder, NoCurrent, Short, Malformed};
 ghost use Rattle.lsm_reading.specs.Blocks.{block_of};
 ghost use Rattle.lsm_reading.specs.Edits.{edit_of};
 ghost use Rattle.lsm_reading.specs.Manifests.{edits_said, tables_after, last_after};
@@ -28,7 +31,8 @@ ghost use Rattle.lsm_reading.specs.Needed.{HasNeeded, IsFresh, Stands, needed};
 ghost use Rattle.lsm_reading.specs.Parts.{AreEdits, AreLawful, IsManifest, HasParts, manifest_text, all_of, names_of_parts, rows_of_all};
 ghost use Rattle.lsm_reading.specs.Reading.{texts_in, reading};
 ghost use Rattle.lsm_reading.specs.Steps.{as_read, table_says};
-ghost use Rattle.lsm_reading.specs.Tables.{table_said};
+ghost use Rattle.lsm_reading.specs.Tables.{is_of, table_in, table_said};
+ghost use Rattle.lsm_reading.specs.Walks.{HasWalked};
 
 /// An edit's text is read back as the edit, and no other text is read as one.
 #[tactic(auto, using(crate::proofs::EditLemmas::edit_back, crate::proofs::EditLemmas::edit_only))]
@@ -58,6 +62,32 @@ pub fn a_table_is_refused_as_its_opening()
         → ¬ IsOutside fault → table_said number info bytes ≡ table_says (Table number) (Err fault) }
 {}
 
+/// What a table's bytes say, where its data blocks are read one by one in the order of its index: a whole walk gives its rows;
+/// a walk that meets a fault of the bytes stops there, and the fault is the table's refusal. No walk begins where the opening
+/// is refused; where the properties, 77 bytes before the end, are those of another table; or where the bytes aren't as many as
+/// the version says.
+pub fn a_walked_table_says_its_rows()
+    ensures begins { (bytes : List ℕ) (index : List Entry) → HasWalked bytes index 0 [] }
+    ensures goes_on { (bytes : List ℕ) (index : List Entry) (nth : ℕ) (rows : List Row) (block : List Entry)
+        → HasWalked bytes index nth rows → IsNthBlock bytes index nth block → HasWalked bytes index (nth + 1) (rows ++ map row_at block) }
+    ensures whole { (number : ℕ) (info : TableInfo) (bytes : List ℕ) (properties : Properties) (index : List Entry)
+        → Opens bytes properties index → is_of number info properties ≡ true
+        → (rows : List Row) → HasWalked bytes index (length index) rows → table_in number info bytes ≡ Ok (record { rows = rows }) }
+    ensures stops { (number : ℕ) (info : TableInfo) (bytes : List ℕ) (properties : Properties) (index : List Entry)
+        → Opens bytes properties index → is_of number info properties ≡ true
+        → (nth : ℕ) (rows : List Row) (fault : TableFault) → HasWalked bytes index nth rows → IsNthFault bytes index nth fault
+        → ¬ IsOutside fault → table_in number info bytes ≡ table_says (Table number) (Err fault) }
+    ensures refused { (number : ℕ) (info : TableInfo) (bytes : List ℕ) (fault : TableFault) → IsRefused bytes fault → ¬ IsOutside fault
+        → table_in number info bytes ≡ table_says (Table number) (Err fault) }
+    ensures other { (number : ℕ) (info : TableInfo) (bytes : List ℕ) (properties : Properties) (index : List Entry)
+        → Opens bytes properties index → is_of number info properties ≡ false
+        → table_in number info bytes ≡ Err (Malformed (Table number) (length bytes - 77)) }
+    ensures sized { (number : ℕ) (info : TableInfo) (bytes : List ℕ) → length bytes ≡ info.size
+        → table_said number info bytes ≡ table_in number info bytes }
+    ensures short { (number : ℕ) (info : TableInfo) (bytes : List ℕ) → length bytes ≢ info.size
+        → table_said number info bytes ≡ Err (Short (Table number) info.size (length bytes)) }
+{}
+
 /// A text says edits exactly where its records are these edits' texts, the edits are in the grammar and make a version, the
 /// first gives all three numbers, and its end is open. So does the text that a store writes.
 #[tactic(auto, using(crate::proofs::ManifestLemmas::manifest_says, crate::proofs::ManifestLemmas::manifest_written))]
@@ -75,20 +105,27 @@ pub fn a_cut_manifest_says_the_first_edits()
 
 /// What a folder with these parts needs are their names.
 pub fn a_folder_needs_its_parts()
-    ensures { (files : Files) (edits : List Edit) (rows : ℕ → List Row) (logs : finmap.FinMap nat_cmp (List ℕ)) (batches : List (List (List Op)))
+    ensures { (files : Files) (edits : List Edit) (rows : ℕ → List Row) (logs : finmap.FinMap nat_cmp (List ℕ))
+        (batches : List (List (List Op)))
         → (has : HasParts files edits rows logs batches) → needed files ≡ names_of_parts has.manifest edits logs }
 {}
 
 /// From what the parts of a folder say, it reads so: as the rows of its tables and, behind them, those of its logs.
 pub fn a_folder_reads_as_its_parts()
-    ensures { (files : Files) (edits : List Edit) (rows : ℕ → List Row) (logs : finmap.FinMap nat_cmp (List ℕ)) (batches : List (List (List Op)))
+    ensures { (files : Files) (edits : List Edit) (rows : ℕ → List Row) (logs : finmap.FinMap nat_cmp (List ℕ))
+        (batches : List (List (List Op)))
         → HasParts files edits rows logs batches
-        → reading (Stands_with files) ≡ Ok (record { sequence = sequence_after (last_after edits) (all_of batches); contents = contents_of (rows_of_all edits rows batches) }) }
+        → reading (Stands_with files) ≡ Ok (record {
+          sequence = sequence_after (last_after edits)
+              (all_of batches);
+          contents = contents_of (rows_of_all edits rows batches);
+        }) }
 {}
 
 /// A folder with such parts stands for their rows, where these are lawful.
 pub fn a_folder_stands_as_its_parts()
-    ensures { (files : Files) (edits : List Edit) (rows : ℕ → List Row) (logs : finmap.FinMap nat_cmp (List ℕ)) (batches : List (List (List Op)))
+    ensures { (files : Files) (edits : List Edit) (rows : ℕ → List Row) (logs : finmap.FinMap nat_cmp (List ℕ))
+        (batches : List (List (List Op)))
         → HasParts files edits rows logs batches → AreLawful edits rows
         → Stands files (contents_of (rows_of_all edits rows batches)) (sequence_after (last_after edits) (all_of batches)) }
 {}

@@ -17,11 +17,7 @@ use Rattle.lsm_recover.specs.Listed.{IsListing, next_log}
 use Rattle.lsm_recover.proofs.ListLemmas.{no_logs, first_log}
 use Rattle.lsm_recover.proofs.NextLogLemmas.{IsAtMost, log_told}
 use Rattle.lsm_recover.proofs.FoundLogLemmas.{IsLogOf, log_is}
-
-a_file : (item : Option Item) (bytes : List ℕ) → bytes_in item ≡ Some bytes → item ≡ Some (A_file bytes)
-a_file None bytes is = cc
-a_file (Some (A_file held)) bytes is = cc
-a_file (Some A_folder) bytes is = cc
+use Rattle.lsm_folder.proofs.LiveLemmas.{a_file}
 
 a_node : (contents : List (List ℕ)) (o : Option Node) (bytes : List ℕ) → option_map (item_of contents) o ≡ Some (A_file bytes) → (id : ℕ) × (o ≡ Some (File_node id))
 a_node contents None bytes is = cc

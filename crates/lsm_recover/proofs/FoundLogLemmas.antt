@@ -21,39 +21,17 @@ use Rattle.lsm_folder.specs.Names.{name_of}
 use Rattle.lsm_folder.proofs.NameLemmas.{name_only}
 use Rattle.lsm_recover.specs.Listed.{log_in, log_number, number_by, lesser, next_log}
 use Rattle.std.proofs.lemmas.Option.{same_Some}
+use Rattle.lsm_folder.proofs.FileLemmas.{first_is, slash_is}
+use Rattle.lsm_folder.proofs.LiveLemmas.{all_below, less}
 
 abbrev head_or : List ℕ → ℕ
 head_or [] = 0
 head_or (x ∷ xs) = x
 
-first_is : (b c : ℕ) (rest more : List ℕ) → Some (b ∷ rest) ≡ Some (c ∷ more) → b ≡ c
-first_is b c rest more e = ap (λ (o : Option (List ℕ)). head_or (unwrap_or o [])) e
-
--- what follows a folder begins with a slash
-slash_is : (dir path : List ℕ) (c : ℕ) (rest : List ℕ) → under dir path ≡ Some (c ∷ rest) → c ≡ 47
-slash_is [] [] c rest e = cc
-slash_is [] (d ∷ path) c rest e =
-    elim (d == 47) as (λ b. (d == 47) ≡ b → cond b (Some (d ∷ path)) None ≡ Some (c ∷ rest) → c ≡ 47) [
-      | true ↦ λ is h. sym (first_is d c path rest h) ∙ number d 47 is
-      | false ↦ λ is h. cc
-    ] refl e
-slash_is (f ∷ dir) [] c rest e = cc
-slash_is (f ∷ dir) (d ∷ path) c rest e =
-    elim (f == d) as (λ b. cond b (under dir path) None ≡ Some (c ∷ rest) → c ≡ 47) [ true ↦ λ h. slash_is dir path c rest h | false ↦ λ h. cc ] e
-
-less : (o : Ordering) → T (is_lt o) → o ≡ Less
-less Less h = refl
-less Equal h = absurd h
-less Greater h = absurd h
-
-parts : (a b : Bool) → T (a && b) → T a × T b
-parts true b h = (tt, h)
-parts false b h = absurd h
-
 none_below : (q : List ℕ) (es : List (List ℕ × Node)) → T (below_all path_cmp q es) → finmap.find path_cmp q es ≡ None
 none_below q [] h = refl
 none_below q (e ∷ es) h =
-    let both = parts (is_lt (path_cmp q e.0)) (below_all path_cmp q es) h in
+    let both = all_below (is_lt (path_cmp q e.0)) (below_all path_cmp q es) h in
     ap (λ (o : Ordering). cond (is_eq o) (Some e.1) (finmap.find path_cmp q es)) (less (path_cmp q e.0) both.0) ∙ none_below q es both.1
 
 module _ (first : ℕ) (more : List ℕ) (least : ℕ) where
@@ -165,5 +143,5 @@ module _ (first : ℕ) (more : List ℕ) (least : ℕ) where
   pub log_is : (es : List (List ℕ × Node)) (n : ℕ) → T (is_sorted path_cmp es) → next_log least (listed dir es) ≡ Some n → IsLogOf es n
   log_is [] n sorted e = cc
   log_is (e ∷ es) n sorted is =
-      let both = parts (below_all path_cmp e.0 es) (is_sorted path_cmp es) sorted in
+      let both = all_below (below_all path_cmp e.0 es) (is_sorted path_cmp es) sorted in
       by_entry e.0 e.1 es both.0 (listed_name dir e.0) n refl (λ tail. log_is es n both.1 tail) is

@@ -27,6 +27,7 @@ use Rattle.lsm_folder.specs.Reading.{LogText, log_of, live_log, said, logs_of}
 use Rattle.lsm_folder.proofs.NameLemmas.{name_again}
 use Rattle.lsm_folder.proofs.LiveLemmas.{same_entries, live_text, logs_among, equal_number, get_logs, entries_of_logs}
 use Rattle.std.proofs.lemmas.Option.{same_Some}
+use Rattle.lsm_rows.proofs.PairEntries.{both}
 
 -- ---- from one log on to the next
 
@@ -50,10 +51,6 @@ live_above least m ((Table n, item) ∷ es) low = live_above least m es low
 live_above least m ((Manifest n, item) ∷ es) low = live_above least m es low
 live_above least m ((Temp n, item) ∷ es) low = live_above least m es low
 live_above least m ((Current, item) ∷ es) low = live_above least m es low
-
-both_so : (a b : Bool) → T a → T b → T (a && b)
-both_so true b p q = q
-both_so false b p q = p
 
 module _ (files : Files) (least : ℕ) where
   -- no log is there
@@ -128,4 +125,4 @@ module _ (files : Files) (least : ℕ) where
     first_log =
         ap finmap.entries (finmap.same_map nat_cmp_total finmap.nat_cmp-IsAntisymmetric (logs_of least files) (finmap.from_entries all)
         (λ q. text_is least q ∙ step q ∙ ap (cond (eq_by_cmp nat_cmp q n) (Some (log_of bytes))) (sym (text_is (n + 1) q) ∙ finmap.get-entries later q) ∙ sym (finmap.get-from_entries nat_cmp_total all q)))
-        ∙ same_entries nat_cmp nat_cmp_total all (both_so _ _ below (finmap.entries_sorted later)) finmap.nat_cmp-IsAntisymmetric
+        ∙ same_entries nat_cmp nat_cmp_total all (both _ _ below (finmap.entries_sorted later)) finmap.nat_cmp-IsAntisymmetric

@@ -36,9 +36,6 @@ reads_begun name reader none = record {
 pub malformed : {A : Type 0} (read : Result A Refusal) (name : FileName) (place : ℕ) (error : FolderError) → error ≡ Malformed name place → read ≡ Err (refusal.Malformed name place) → IsRefusedBy read error
 malformed read name place error is says = subst (λ (e : FolderError). IsRefusedBy read e) (sym is) says
 
-pub stays_both : (start mid now : Viewed) → Stays start mid → Stays mid now → Stays start now
-stays_both start mid now one two = record { bytes = two.bytes ∙ one.bytes; len = two.len ∙ one.len; faults = omega (arith, one.faults, two.faults) }
-
 pub frame_refused : (name : FileName) (text : List ℕ) (given : ℕ) (version : Option Version) (error : FrameError) → EditsRead name text given version → IfSome (ending_of (Err error)) (λ (e : Ending). EndsBehind text given e)
     → IsRefusedBy (edits_said name text) (frame_error name error)
 frame_refused name text given version frame.ReadFault r ends = tt

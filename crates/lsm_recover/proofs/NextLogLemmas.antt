@@ -10,7 +10,7 @@ use Rattle.lsm_names.specs.declared.file_names.FileName.{FileName}
 use Rattle.lsm_names.specs.declared.file_names.FileName.TheVariants.{Log, Table, Manifest, Temp, Current}
 use Rattle.lsm_names.specs.FileNames.{spelled, IsFileName, is_file_number}
 use Rattle.lsm_names.specs.Paths.{is_path, is_slash, is_component_byte, cut_last, put_before}
-use Rattle.lsm_names.proofs.PathLemmas.{joined_is_path, component_is_path, bytes_of_component}
+use Rattle.lsm_names.proofs.PathLemmas.{joined_is_path, component_is_path, bytes_of_component, no_slash_byte, no_slash}
 use Rattle.lsm_names.proofs.FileNameLemmas.{spelled_is_component, spelled_is_short}
 use Rattle.lsm_disk.specs.Names.{Node, Folder_node, File_node, path_cmp, inside, under}
 use Rattle.lsm_disk.specs.Listing.{kind_by, one_part, listed_name, with_entry, listed}
@@ -22,16 +22,6 @@ use Rattle.lsm_folder.specs.Files.{name_in}
 use Rattle.lsm_folder.proofs.NameLemmas.{name_again}
 use Rattle.lsm_recover.specs.Listed.{log_in, log_number, number_by, lesser, next_log}
 use Rattle.std.proofs.lemmas.Bool.{and_parts}
-
-no_slash_byte : (byte : ℕ) → is_component_byte byte ≡ true → is_slash byte ≡ false
-unfolding is_component_byte
-no_slash_byte byte h = grind (arith, nat_tests)
-
-no_slash : (part : List ℕ) → list_all is_component_byte part ≡ true → cut_last part ≡ None
-no_slash [] h = refl
-no_slash (byte ∷ part) h =
-    let cut = and_parts (is_component_byte byte) (list_all is_component_byte part) h in
-    ap (put_before byte) (no_slash part cut.1) ∙ ap (λ (b : Bool). cond b (Some []) None) (no_slash_byte byte cut.0)
 
 -- a number that is there and at most this one
 abbrev pub IsAtMost : ℕ → Option ℕ → Type 0

@@ -23,7 +23,7 @@ use Rattle.lsm_folder.specs.Files.{Files, Stands_with}
 use Rattle.lsm_folder.specs.Edits.{Edit, version_of}
 use Rattle.lsm_folder.specs.Reading.{◌>>=◌, LogText, Texts, AllRows, Shown, log_of, logs_of, batches_of, all_batches, is_empty, current_of, edits_of, texts_in, rows_in, read, reading}
 use Rattle.lsm_folder.specs.Plain.{GivesVersion, before_batches}
-use Rattle.lsm_folder.proofs.PlainLogLemmas.{this_log, log_taken, log_torn, log_trouble, last_small}
+use Rattle.lsm_folder.proofs.PlainLogLemmas.{this_log, log_taken, log_torn, log_trouble, last_small, none_before, before_both}
 use Rattle.lsm_recover.specs.declared.errors.FolderError.{FolderError}
 use Rattle.lsm_recover.specs.declared.errors.FolderError.TheVariants.{DiskFault, NoFolder, NoCurrent, Missing, Changed, Damaged, Malformed, TornLog, Gap, NoMemory}
 use Rattle.lsm_recover.specs.Answers.{IsRefusedBy}
@@ -55,14 +55,6 @@ wal_refused is_last number expected bytes (why.BadBatch place) trouble = log_tro
 wal_refused is_last number expected bytes (why.Gap kept found) trouble = log_trouble is_last number expected bytes (why.Gap kept found) (refusal.Gap (Log number) kept found) trouble refl
 
 -- ---- one log after another
-
-none_before : (r : Result (List (List Op)) Refusal) → r ≡ before_batches [] r
-none_before (Err refusal) = refl
-none_before (Ok batches) = refl
-
-before_both : (one two : List (List Op)) (rest : Result (List (List Op)) Refusal) → before_batches one (before_batches two rest) ≡ before_batches (one ++ two) rest
-before_both one two (Err refusal) = refl
-before_both one two (Ok more) = ap Ok (sym (append_assoc one two more))
 
 pub replay_begun : (first : ℕ) (logs : List (ℕ × LogText)) (contents : Contents) → first < 2 ^ 56 → Replays first (all_batches (first + 1) logs) (λ (next : ℕ). all_batches next logs) contents contents first
 replay_begun first logs contents small = record { more = []; is = none_before (all_batches (first + 1) logs); contents_are = refl; last_is = refl; small = small }

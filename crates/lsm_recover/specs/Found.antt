@@ -17,7 +17,8 @@ AnswersVersion read (Ok version) = GivesVersion read version
 AnswersVersion read (Err error) = IsRefusedBy read error
 
 -- behind a first sequence some batches were read and replayed over the contents, and then that is still to be read
-pub record Replays (first : ℕ) (read : Result (List (List Op)) Refusal) (rest : ℕ → Result (List (List Op)) Refusal) (before after : Contents) (last : ℕ) : Type 0 where
+pub record Replays (first : ℕ) (read : Result (List (List Op)) Refusal) (rest : ℕ → Result (List (List Op)) Refusal)
+    (before after : Contents) (last : ℕ) : Type 0 where
   pub more : List (List Op)
   pub is : read ≡ before_batches more (rest (last + 1))
   pub contents_are : after ≡ replayed before more
@@ -25,7 +26,8 @@ pub record Replays (first : ℕ) (read : Result (List (List Op)) Refusal) (rest 
   pub small : last < 2 ^ 56
 
 -- the answer is the last sequence behind what was read and replayed, or the refusal
-abbrev pub AnswersReplay : ℕ → Result (List (List Op)) Refusal → (ℕ → Result (List (List Op)) Refusal) → Contents → Contents → Result ℕ FolderError → Type 0
+abbrev pub AnswersReplay : ℕ → Result (List (List Op)) Refusal → (ℕ → Result (List (List Op)) Refusal) → Contents → Contents
+    → Result ℕ FolderError → Type 0
 AnswersReplay first read rest before after (Ok last) = Replays first read rest before after last
 AnswersReplay first read rest before after (Err error) = IsRefusedBy read error
 
@@ -39,7 +41,8 @@ pub record IsReplayed (read : Result (List (List Op)) Refusal) (last : ℕ) (bef
 
 -- the answer is the last sequence behind one log that is there, whose batches were replayed, or the log's refusal; a log
 -- that isn't there is missing
-abbrev pub AnswersLog : Option (List ℕ) → (List ℕ → Result (List (List Op)) Refusal) → ℕ → Contents → Contents → Result ℕ FolderError → Type 0
+abbrev pub AnswersLog : Option (List ℕ) → (List ℕ → Result (List (List Op)) Refusal) → ℕ → Contents → Contents
+    → Result ℕ FolderError → Type 0
 AnswersLog None read last before after result = Unit {0}
 AnswersLog (Some text) read last before after (Ok next) = IsReplayed (read text) last before after next
 AnswersLog (Some text) read last before after (Err error) = IsRefusedBy (read text) error

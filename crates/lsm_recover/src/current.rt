@@ -46,7 +46,8 @@ pub(crate) fn read_current<D: Disk>(disk: &mut D, dir: &Path) -> Result<u64, Fol
 // The number of the manifest that a text of `CURRENT` names. A longer text than any lawful one isn't read.
 fn read_name<V: View>(view: &mut V) -> Result<u64, FolderError>
     ensures number { IfOk result (λ number. IsTrue (is_file_number number)) }
-    ensures answer { (text : List ℕ) → Tells (V.viewed view.old) text → AnswersAs (some_or (Malformed Current 0) (manifest_in text)) result }
+    ensures answer { (text : List ℕ) → Tells (V.viewed view.old) text
+        → AnswersAs (some_or (Malformed Current 0) (manifest_in text)) result }
     ensures cause { IfErr result (HasRisenIn (V.viewed view.old) (V.viewed view.new)) }
 {
     if view.len() > CURRENT_LIMIT as u64 {

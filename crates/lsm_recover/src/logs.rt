@@ -44,7 +44,8 @@ pub(crate) fn read_logs<D: Disk>(
     requires small { version.last < 2 ^ 56 }
     ensures told { (D.seen disk.new).told ≡ (D.seen disk.old).told }
     ensures answer { IfSome (D.seen disk.old).told (λ story. IsListing dir.now story entries.now
-        → AnswersReplay version.last (all_batches (version.last + 1) (finmap.entries (logs_of version.log (files_now dir.now story)))) (λ _. Ok []) contents.old contents.new result) }
+        → AnswersReplay version.last (all_batches (version.last + 1)
+        (finmap.entries (logs_of version.log (files_now dir.now story)))) (λ _. Ok []) contents.old contents.new result) }
     ensures cause { HasFolderCause dir.now (D.seen disk.old) (D.seen disk.new) result }
 {
     let _front = dir.as_bytes();
@@ -72,7 +73,8 @@ fn read_log<D: Disk>(
     requires number { IsTrue (is_file_number number) }
     ensures told { (D.seen disk.new).told ≡ (D.seen disk.old).told }
     ensures answer { IfSome (D.seen disk.old).told (λ story. last < 2 ^ 56
-        → AnswersLog (file_at (files_now dir.now story) (Log number)) (λ text. batches_of is_last (last + 1) number (log_of text)) last contents.old contents.new result) }
+        → AnswersLog (file_at (files_now dir.now story) (Log number))
+        (λ text. batches_of is_last (last + 1) number (log_of text)) last contents.old contents.new result) }
     ensures cause { HasFolderCause dir.now (D.seen disk.old) (D.seen disk.new) result }
 {
     let name = FileName::Log(number);
@@ -104,7 +106,8 @@ fn take_log(
     log: Taken,
     contents: &mut Pairs,
 ) -> Result<u64, FolderError>
-    ensures taken { IfOk result (λ last. (hindering is_last log.torn ≡ None) × (contents.new ≡ replayed contents.old log.batches) × (last ≡ log.last)) }
+    ensures taken { IfOk result (λ last. (hindering is_last log.torn ≡ None)
+        × (contents.new ≡ replayed contents.old log.batches) × (last ≡ log.last)) }
     ensures refused { IfErr result (IsNotTaken name (hindering is_last log.torn)) }
 {
     if let Some(place) = hindering(is_last, log.torn) {

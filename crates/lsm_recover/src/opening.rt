@@ -44,7 +44,8 @@ fn refusal(call: DiskCall, path: &Path, why: DiskError) -> DiskRefusal
 pub(crate) fn open_whole<D: Disk>(disk: &mut D, path: &Path) -> Result<D::View, DiskRefusal>
     ensures told { (D.seen disk.new).told ≡ (D.seen disk.old).told }
     ensures there { IfOk result (λ view. IfSome (D.seen disk.old).told (λ story. no_file path.now (state_of story) ≡ None)) }
-    ensures tells { IfOk result (λ view. IfSome (D.seen disk.old).told (λ story. Tells (D.View.viewed view) (bytes_of (file_now path.now (state_of story))))) }
+    ensures tells { IfOk result (λ view. IfSome (D.seen disk.old).told
+        (λ story. Tells (D.View.viewed view) (bytes_of (file_now path.now (state_of story))))) }
     ensures fresh { IfOk result (λ view. (D.View.viewed view).faults ≡ 0) }
     ensures refused { IfErr result (λ r. IfSome (D.seen disk.old).told (λ story. RefusesBy (no_file path.now (state_of story)) r.why)) }
     ensures cause { HasDiskCause (D.seen disk.old) (D.seen disk.new) result }

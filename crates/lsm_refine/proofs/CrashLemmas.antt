@@ -16,7 +16,7 @@ use Rattle.lsm_disk.specs.Images.{Tree, IsImage, tree_now}
 use Rattle.lsm_disk.proofs.Lawful.{get_named}
 use Rattle.lsm_disk.proofs.Paths.{same_path, path_itself}
 use Rattle.lsm_folder.specs.Files.{Place, files_in}
-use Rattle.lsm_folder.proofs.FileLemmas.{no_place}
+use Rattle.lsm_folder.proofs.FileLemmas.{no_place, alike}
 use Rattle.lsm_folder.proofs.NameLemmas.{same_text, equal_texts}
 use Rattle.lsm_reading.specs.Needed.{Stands}
 use Rattle.lsm_reading.specs.Reading.{reading}
@@ -29,15 +29,10 @@ use Rattle.lsm_model.specs.Crashes.{KeepsSure, Crashed, closed}
 use Rattle.lsm_refine.specs.Kept.{Shown}
 use Rattle.lsm_refine.specs.Folders.{StandsFor, StandsFrom, as_shown, folder_reading, FoldersAre, FoldersRead, ReadsAs}
 use Rattle.lsm_refine.specs.Good.{Good}
-use Rattle.lsm_refine.proofs.FileLemmas.{folder_named}
 use Rattle.lsm_refine.proofs.GoodLemmas.{good_image}
+use Rattle.lsm_names.proofs.FolderLemmas.{folder_has_bytes}
 
 -- ---- equal names
-
-alike : (a b : Bool) → (a ≡ true → b ≡ true) → (b ≡ true → a ≡ true) → a ≡ b
-alike true b f g = sym (f refl)
-alike false true f g = g refl
-alike false false f g = refl
 
 same_test : (name path : List ℕ) → bytes_eq path name ≡ eq_by_cmp path_cmp name path
 same_test name path = alike _ _
@@ -78,7 +73,7 @@ module _ (s : State) (t : Tree) where
   folders_from [] = []
   folders_from (e ∷ es) = cond (is_other e.0) (as_read e.0 ∷ folders_from es) (folders_from es)
 
-  abbrev folders_in : List FolderRead
+  abbrev pub folders_in : List FolderRead
   folders_in = folders_from (finmap.entries t.names)
 
   other_by : (a b : Bool) → (a && not b) ≡ true → (a ≡ true) × (b ≡ false)
@@ -140,7 +135,7 @@ module _ (s : State) (t : Tree) where
     nothing_read : finmap.get t.names name ≡ None → folder_reading name t ≡ Err (error.NoFolder name)
     unfolding folder_reading
     nothing_read is =
-        let free : stands t.names name ≡ None = sym (get_named t.names name (λ empty. omega (arith, folder_named name fits, ap (λ (p : List ℕ). length p) empty))) ∙ is in
+        let free : stands t.names name ≡ None = sym (get_named t.names name (λ empty. omega (arith, folder_has_bytes name fits, ap (λ (p : List ℕ). length p) empty))) ∙ is in
         ap (λ (place : Place). as_shown name (reading place)) (no_place name t free)
 
     reads_by : (node : Option Node) → finmap.get t.names name ≡ node → folder_reading name t ≡ known_reading name (option_map (λ (n : Node). as_read name) node)
@@ -161,10 +156,10 @@ module _ (s : State) (t : Tree) where
     sure_by folder None there same = cc
     sure_by folder (Some node) there same = ap Some same
 
-  folders_are : FoldersAre s.own folders_in t
+  pub folders_are : FoldersAre s.own folders_in t
   folders_are = record { only = only_from (finmap.entries t.names); reads = reads; taken = taken }
 
-  keeps_sure : (d : disk.State) → IsImage d t → FoldersRead d s → KeepsSure s.folders folders_in
+  pub keeps_sure : (d : disk.State) → IsImage d t → FoldersRead d s → KeepsSure s.folders folders_in
   keeps_sure d i are name folder found is_sure =
       let entry = listed s.own name folder s.folders are.now.only found in
       let sure = are.sure name folder found is_sure in
@@ -192,7 +187,7 @@ module _ (s : State) (t : Tree) where
   -- ---- what a crash leaves
 
   module _ (front : StandsFrom s s.durable t) where
-    abbrev after_crash : State
+    abbrev pub after_crash : State
     after_crash = record (closed s) { accepted = take front.count (written s); durable = length (take front.count (written s)); folders = folders_in }
 
     all_of_it : take front.count (written s) ≡ take (length (take front.count (written s))) (written after_crash)
@@ -200,7 +195,7 @@ module _ (s : State) (t : Tree) where
         sym (take_all (length (take front.count (written s))) (take front.count (written s)) (omega arith))
         ∙ ap (λ (l : List (List Op)). take (length (take front.count (written s))) l) (sym (append-nil (take front.count (written s))))
 
-    stands_after : StandsFor after_crash t (length after_crash.accepted)
+    pub stands_after : StandsFor after_crash t (length after_crash.accepted)
     stands_after = record {
       folder = front.stands.folder;
       stands = subst (λ (l : List (List Op)). Stands (files_in s.own t) (replayed s.opening l) (sequence_after s.began l)) all_of_it front.stands.stands;
@@ -209,7 +204,7 @@ module _ (s : State) (t : Tree) where
     reads_after : ReadsAs t after_crash
     reads_after = record { own = stands_after; others = folders_are }
 
-    crashed : (d : disk.State) → IsImage d t → FoldersRead d s → Crashed s after_crash
+    pub crashed : (d : disk.State) → IsImage d t → FoldersRead d s → Crashed s after_crash
     crashed d i are = record {
       kept = front.count;
       durable = front.enough;
@@ -219,10 +214,12 @@ module _ (s : State) (t : Tree) where
       rest = refl;
     }
 
+-- an image in which the store's own folder stands for such a front, and the sure folders read as they did
+pub front_reads : (d : disk.State) (s : State) (t : Tree) → IsImage d t → FoldersRead d s → StandsFrom s s.durable t → (c : State) × Crashed s c × ReadsAs t c
+front_reads d s t i are front = (after_crash s t front, crashed s t front d i are, reads_after s t front)
+
 pub image_reads : (v : Shown) (s : State) (good : Good v s) (t : Tree) → IsImage (state_of good.story) t → (c : State) × Crashed s c × ReadsAs t c
-image_reads v s good t i =
-    let front = good_image v s good t i in
-    (after_crash s t front, crashed s t front (state_of good.story) i good.folders, reads_after s t front)
+image_reads v s good t i = front_reads (state_of good.story) s t i good.folders (good_image v s good t i)
 
 -- the other folders of any disk can be listed
 pub list_folders : (d : disk.State) (s : State) → s.folders ≡ [] → (folders : List FolderRead) × FoldersRead d (record s { folders = folders })

@@ -1,13 +1,11 @@
 -- What an image has under the names that a store keeps.
-use Rattle.std.specs.Prelude.{◌≡◌, ℕ, ◌≤◌, Bool, true, false, ◌&&◌, nat_le, List, [], ◌∷◌, take, length, All, Option, Some, None, option_map}
-use Rattle.std.proofs.Common.{refl, sym, ap, ◌∙◌, arith}
-use Rattle.std.proofs.lemmas.Bool.Decides.{nat_tests}
+use Rattle.std.specs.Prelude.{◌≡◌, ℕ, ◌≤◌, Bool, true, false, ◌&&◌, List, [], ◌∷◌, take, length, All, Option, Some, None}
+use Rattle.std.proofs.Common.{refl, sym, ap, ◌∙◌}
 use Rattle.std.proofs.lemmas.List.Elements.{All-head, All-tail, All-take}
 use Rattle.std.specs.FinMap as finmap
-use Rattle.lsm_names.specs.Folders.{is_folder_name}
 use Rattle.lsm_names.specs.FileNames.{IsFileName}
 use Rattle.lsm_names.specs.declared.file_names.FileName.{FileName}
-use Rattle.lsm_disk.specs.Names.{Node, Folder_node, File_node, NameOp, Names, named, all_named, id_of}
+use Rattle.lsm_disk.specs.Names.{NameOp, Names, named, all_named, id_of}
 use Rattle.lsm_disk.specs.State.{State, names_now}
 use Rattle.lsm_disk.specs.Images.{Tree, IsImage, bytes_at}
 use Rattle.lsm_disk.specs.Kept.{OpSpares}
@@ -15,9 +13,10 @@ use Rattle.lsm_disk.specs.Dest.{path_in}
 use Rattle.lsm_disk.proofs.Cuts.{cut_sure}
 use Rattle.lsm_disk.proofs.Kept.{kept_image}
 use Rattle.lsm_disk.proofs.Paths.{get_spared}
-use Rattle.lsm_folder.specs.Files.{Item, bytes_in, item_of, files_in, file_at}
+use Rattle.lsm_folder.specs.Files.{Item, bytes_in, files_in, file_at}
 use Rattle.lsm_folder.proofs.FileLemmas.{files_are, file_is, file_names}
 use Rattle.lsm_refine.specs.Sane.{IsWholeFile}
+use Rattle.lsm_folder.proofs.TreeLemmas.{no_file}
 
 -- a whole file has its bytes in each image
 pub whole_image : (d : State) (path bytes : List ℕ) → IsWholeFile d path bytes → (t : Tree) → IsImage d t → bytes_at t path ≡ Some bytes
@@ -44,14 +43,9 @@ quiet_image d path each t i =
 pub file_there : (dir : List ℕ) (t : Tree) (name : FileName) (bytes : List ℕ) → 1 ≤ length dir → IsFileName name → bytes_at t (path_in dir name) ≡ Some bytes → file_at (files_in dir t) name ≡ Some bytes
 file_there dir t name bytes some fits is = ap bytes_in (file_is dir t name bytes some fits is)
 
-no_bytes : (contents : List (List ℕ)) (node : Option Node) → id_of node ≡ None → bytes_in (option_map (item_of contents) node) ≡ None
-no_bytes contents None is = refl
-no_bytes contents (Some Folder_node) is = refl
-no_bytes contents (Some (File_node id)) is = cc
-
 -- where no file has the path the folder has none of the name
 pub file_gone : (dir : List ℕ) (t : Tree) (name : FileName) → 1 ≤ length dir → IsFileName name → id_of (finmap.get t.names (path_in dir name)) ≡ None → file_at (files_in dir t) name ≡ None
-file_gone dir t name some fits is = ap bytes_in (files_are dir t name some fits) ∙ no_bytes t.contents (finmap.get t.names (path_in dir name)) is
+file_gone dir t name some fits is = ap bytes_in (files_are dir t name some fits) ∙ no_file t.contents (finmap.get t.names (path_in dir name)) is
 
 none_by : (dir : List ℕ) (t : Tree) (name : FileName) (item : Option Item) → 1 ≤ length dir → ¬ IsFileName name → finmap.get (files_in dir t) name ≡ item → bytes_in item ≡ None
 none_by dir t name None some never is = refl
@@ -64,12 +58,3 @@ file_never dir t name some never = none_by dir t name (finmap.get (files_in dir 
 both_true : (a b : Bool) → (a && b) ≡ true → a ≡ true
 both_true true b is = refl
 both_true false b is = cc
-
--- a folder's name isn't empty
-pub folder_named : (dir : List ℕ) → is_folder_name dir ≡ true → 1 ≤ length dir
-unfolding is_folder_name
-folder_named dir is = let some : nat_le 1 (length dir) ≡ true = first_of_four _ _ _ _ is in grind (arith, nat_tests)
-  where
-    first_of_four : (a b c e : Bool) → (a && b && c && e) ≡ true → a ≡ true
-    first_of_four true b c e is = refl
-    first_of_four false b c e is = cc

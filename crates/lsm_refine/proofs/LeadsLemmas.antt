@@ -1,15 +1,11 @@
 -- Calls that lead to a store lead on by each further one.
 use Rattle.std.specs.Prelude.{List, [], ◌∷◌, ◌++◌}
-use Rattle.std.proofs.Common.{refl, subst}
+use Rattle.std.proofs.Common.{refl}
 use Rattle.lsm_model.specs.declared.states.State.{State}
-use Rattle.lsm_model.specs.Steps.{Made, Makes, Run}
+use Rattle.lsm_model.specs.Steps.{Made, Makes}
 use Rattle.lsm_refine.specs.Kept.{Shown}
 use Rattle.lsm_refine.specs.Good.{Good, Leads}
-
--- a run goes on by a call
-run_more : (s mid t : State) (steps : List Made) (made : Made) → Run s steps mid → Makes mid made t → Run s (steps ++ made ∷ []) t
-run_more s mid t [] made run step = (t, subst (λ (from : State). Makes from made t) run step, refl)
-run_more s mid t (x ∷ steps) made run step = (run.0, run.1, run_more run.0 mid t steps made run.2 step)
+use Rattle.lsm_model.proofs.Histories.{run_more}
 
 pub leads_none : (s : State) (v : Shown) → Good v s → Leads s [] v
 leads_none s v good = record { end = s; run = refl; good = good }

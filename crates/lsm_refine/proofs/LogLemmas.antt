@@ -1,5 +1,5 @@
 -- Logs by their numbers, and what a folder has of them.
-use Rattle.std.specs.Prelude.{◌≡◌, ◌≢◌, ℕ, zero, suc, ◌≤◌, Bool, true, false, cond, ◌&&◌, List, [], ◌∷◌, ◌++◌, map, take, length, T, All, Option, Some, None}
+use Rattle.std.specs.Prelude.{◌≡◌, ◌≢◌, ℕ, zero, suc, ◌≤◌, Bool, true, false, cond, List, [], ◌∷◌, ◌++◌, map, take, length, T, All, Option, Some, None}
 use Rattle.std.proofs.Common.{refl, sym, ap, subst, ◌∙◌, arith}
 use Rattle.std.proofs.lemmas.Bool.Decides.{nat_tests}
 use Rattle.std.proofs.lemmas.List.{length-take}
@@ -22,15 +22,12 @@ use Rattle.lsm_refine.specs.Parts.{LogPart, numbers_of, batches_in}
 use Rattle.lsm_refine.specs.Sane.{AreSynced}
 use Rattle.lsm_refine.specs.Fronts.{texts_from}
 use Rattle.lsm_rows.proofs.Replaying.{sequence_both}
+use Rattle.lsm_rows.proofs.PairEntries.{both}
 
 abbrev pub numbers_in : List (ℕ × List ℕ) → List ℕ
 numbers_in es = map (λ (e : ℕ × List ℕ). e.0) es
 
 -- ---- their order
-
-both : (a b : Bool) → T a → T b → T (a && b)
-both true b one two = two
-both false b one two = one
 
 below_by : (q : ℕ) (es : List (ℕ × List ℕ)) → AllByRecursion (λ (n : ℕ). nat_cmp q n ≡ Less) (numbers_in es) → T (below_all nat_cmp q es)
 below_by q [] low = tt
@@ -100,9 +97,6 @@ pub take_taken : {A : Type 0} (n : ℕ) (xs : List A) → take (length (take n x
 take_taken zero xs = refl
 take_taken (suc n) [] = refl
 take_taken (suc n) (x ∷ xs) = ap (λ l. x ∷ l) (take_taken n xs)
-
-pub taken_within : {A : Type 0} (n : ℕ) (xs : List A) → length (take n xs) ≤ length xs
-taken_within n xs = omega (arith, length-take n xs)
 
 pub taken_enough : {A : Type 0} (least n : ℕ) (xs : List A) → least ≤ n → least ≤ length xs → least ≤ length (take n xs)
 taken_enough least n xs first second = omega (arith, first, second, length-take n xs)

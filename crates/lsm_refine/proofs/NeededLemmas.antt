@@ -88,7 +88,7 @@ module _ (d : State) (dir : List ℕ) (kept : Kept) (last : ℕ) (c : Change) (s
 
 -- ---- an append to the last log, and its sync
 
-node_is : (node : Option Node) (id : ℕ) → id_of node ≡ Some id → node ≡ Some (File_node id)
+pub node_is : (node : Option Node) (id : ℕ) → id_of node ≡ Some id → node ≡ Some (File_node id)
 node_is None id is = cc
 node_is (Some Folder_node) id is = cc
 node_is (Some (File_node k)) id is = cc
@@ -118,7 +118,7 @@ quiet_stays d dir kept (Created path) keeps is = absurd keeps
 quiet_stays d dir kept (Named op) keeps is = absurd keeps
 quiet_stays d dir kept (Appended id more) keeps is = record { spares = is.spares }
 quiet_stays d dir kept (Synced id) keeps is = record { spares = is.spares }
-quiet_stays d dir kept Names_synced keeps is = record { spares = λ name held. All-nil (OpSpares (path_in dir name)) }
+quiet_stays d dir kept Names_synced keeps is = record { spares = λ name fits held. All-nil (OpSpares (path_in dir name)) }
 quiet_stays d dir kept Idle keeps is = is
 
 pub known_stay : (d : State) (dir : List ℕ) (kept : Kept) (c : Change) → KeepsNames c → AreKnown d dir kept → AreKnown (after d c) dir kept

@@ -7,7 +7,6 @@ use Rattle.std.proofs.lemmas.List.Sorted.{IsPermutation-refl}
 use Rattle.std.specs.List.{flat_map, IsDistinct}
 use Rattle.std.specs.List.Sorted.{IsStrictlySortedBy}
 use Rattle.std.specs.Ordering.{nat_cmp, eq_by_cmp}
-use Rattle.std.specs.Cmp.{nat_cmp_total}
 use Rattle.std.specs.FinMap as finmap
 use Rattle.lsm_names.specs.Numbers.{is_file_number}
 use Rattle.lsm_names.specs.FileNames.{IsFileName, spelled}
@@ -31,7 +30,6 @@ use Rattle.lsm_wal.specs.Batches.{IsLogged}
 use Rattle.lsm_wal.specs.Standing.{IsWal}
 use Rattle.lsm_folder.specs.Names.{name_cmp, current_text}
 use Rattle.lsm_folder.proofs.FileLemmas.{same_name, name_itself}
-use Rattle.lsm_folder.proofs.LiveLemmas.{same_entries}
 use Rattle.lsm_version.specs.declared.tables.Placed.{Placed}
 use Rattle.lsm_version.specs.Edits.{IsEdit, AreFields, InRange, Before, rank_of}
 use Rattle.lsm_version.specs.Levels.{Tables, overlaps_from}
@@ -51,6 +49,7 @@ use Rattle.lsm_refine.specs.Listing.{table_listed, manifest_listed, files_listed
 use Rattle.lsm_refine.specs.Good.{Good}
 use Rattle.lsm_refine.proofs.CrashLemmas.{list_folders}
 use Rattle.lsm_refine.specs.New.{first_edit, first_manifest, new_names, new_kept, new_store, new_state, IsLeftover, IsThere, HasNewStore}
+use Rattle.lsm_reading.proofs.PlainLemmas.{no_entries}
 
 -- ---- its one edit
 
@@ -63,12 +62,6 @@ module _ (m : ℕ) (least : 1 ≤ m) (most : m + 2 < 2 ^ 56) where
       (record { range = (omega (arith, least), omega (arith, most)); behind = inl (omega arith) }, (record { range = omega arith; behind = inl (omega arith) }, tt)),
     );
   }
-
-no_entries : finmap.entries empty_version ≡ []
-no_entries =
-    ap finmap.entries (finmap.same_map nat_cmp_total finmap.nat_cmp-IsAntisymmetric empty_version (finmap.from_entries {R = nat_cmp} [])
-    (λ number. finmap.get-empty nat_cmp number ∙ sym (finmap.get-from_entries nat_cmp_total [] number)))
-    ∙ same_entries nat_cmp nat_cmp_total [] tt finmap.nat_cmp-IsAntisymmetric
 
 first_version : (m : ℕ) → version_after (first_edit m ∷ []) ≡ Ok empty_version
 unfolding version_after applied changed
@@ -95,7 +88,7 @@ first_are m least most = record {
 
 -- it lists its manifest alone
 pub new_lists : (m : ℕ) (beside : List FileName) → files_listed (new_kept m beside) ≡ manifest_listed (new_kept m beside) ∷ []
-new_lists m beside = ap (λ (es : List (ℕ × Placed)). map table_listed es ++ [] ++ [] ++ manifest_listed (new_kept m beside) ∷ []) no_entries
+new_lists m beside = ap (λ (es : List (ℕ × Placed)). map table_listed es ++ manifest_listed (new_kept m beside) ∷ []) no_entries
 
 -- ---- it has no table and no row
 
@@ -113,7 +106,7 @@ no_table_rows m =
     ap (λ (tables : Tables). rows_of_tables tables no_rows) (first_tables m)
     ∙ ap (flat_map (λ (table : ℕ × Placed). no_rows table.0)) no_entries
 
-no_contents : contents_of [] ≡ finmap.empty
+pub no_contents : contents_of [] ≡ finmap.empty
 no_contents = same_contents (contents_of []) finmap.empty (λ key. get_contents [] key ∙ sym (finmap.get-empty key_cmp key))
 
 first_lawful : (m : ℕ) → AreLawful (first_edit m ∷ []) no_rows
@@ -142,14 +135,14 @@ new_parts m = record {
 }
 
 -- other names are spelled otherwise
-spelled_apart : (name n : FileName) → IsFileName name → IsFileName n → eq_by_cmp name_cmp name n ≡ false → spelled name ≢ spelled n
+pub spelled_apart : (name n : FileName) → IsFileName name → IsFileName n → eq_by_cmp name_cmp name n ≡ false → spelled name ≢ spelled n
 spelled_apart name n fits also other same =
     let is : name ≡ n = spelled_injective name n fits also same in
     let clash : true ≡ false = sym (name_itself n) ∙ ap (λ (m : FileName). eq_by_cmp name_cmp m n) (sym is) ∙ other in
     cc
 
 -- a name is among some, or spelled otherwise than each
-among_or_not : (names : List FileName) (name : FileName) → All IsFileName names → IsFileName name → Contains names name ⊎ All (λ (n : FileName). spelled name ≢ spelled n) names
+pub among_or_not : (names : List FileName) (name : FileName) → All IsFileName names → IsFileName name → Contains names name ⊎ All (λ (n : FileName). spelled name ≢ spelled n) names
 among_or_not [] name each fits = inr (All-nil (λ (n : FileName). spelled name ≢ spelled n))
 among_or_not (n ∷ names) name each fits =
     elim (eq_by_cmp name_cmp name n) as (λ b. eq_by_cmp name_cmp name n ≡ b → Contains (n ∷ names) name ⊎ All (λ (m : FileName). spelled name ≢ spelled m) (n ∷ names)) [
@@ -221,8 +214,8 @@ module _ (d : disk.State) (dir : List ℕ) (m : ℕ) (beside : List FileName) (h
   log_kept = has.each 2 (record { name = Current; bytes = [] }) (omega arith)
 
   -- no other file is there
-  none_there : (name : FileName) → All (λ (n : FileName). spelled name ≢ spelled n) names → file_at d (path_in dir name) ≡ None
-  none_there name others = ap id_of (name_now d (path_in dir name) None (has.only (spelled name) others))
+  none_there : (name : FileName) → IsFileName name → All (λ (n : FileName). spelled name ≢ spelled n) names → file_at d (path_in dir name) ≡ None
+  none_there name fits others = ap id_of (name_now d (path_in dir name) None (has.only name fits others))
 
   is_current : IsCurrent d dir (new_kept m beside)
   is_current = record { named = has.named; folder = has.stands; numbered = manifest_named; file = record { id = current_kept.id; file = current_kept.file } }
@@ -254,7 +247,7 @@ module _ (d : disk.State) (dir : List ℕ) (m : ℕ) (beside : List FileName) (h
   only_log : (number : ℕ) → m + 1 ≤ number → IsFileName (Log number) → MayStand d dir (new_kept m beside) number
   only_log number least fits = ⊎_elim
       (λ among. inl (number_among number least among))
-      (λ others. inr (none_there (Log number) others))
+      (λ others. inr (none_there (Log number) fits others))
       (among_or_not names (Log number) new_named fits)
 
   has_logs : HasLogs d dir (new_kept m beside) (new_parts m)
@@ -272,7 +265,7 @@ module _ (d : disk.State) (dir : List ℕ) (m : ℕ) (beside : List FileName) (h
   }
 
   is_quiet : IsQuiet d dir (new_kept m beside)
-  is_quiet = record { spares = λ name held. subst (All (OpSpares (path_in dir name))) (sym has.settled) (All-nil (OpSpares (path_in dir name))) }
+  is_quiet = record { spares = λ name fits held. subst (All (OpSpares (path_in dir name))) (sym has.settled) (All-nil (OpSpares (path_in dir name))) }
 
   abbrev HasFile : FileName → Type 0
   HasFile name = is_some (file_at d (path_in dir name)) ≡ true
@@ -291,7 +284,7 @@ module _ (d : disk.State) (dir : List ℕ) (m : ℕ) (beside : List FileName) (h
   is_known : (name : FileName) → IsFileName name → is_some (finmap.get (names_now d) (path_in dir name)) ≡ true → Contains names name
   is_known name fits there = ⊎_elim
       (λ among. among)
-      (λ others. let clash : false ≡ true = ap is_some (sym (name_now d (path_in dir name) None (has.only (spelled name) others))) ∙ there in absurd (cc))
+      (λ others. let clash : false ≡ true = ap is_some (sym (name_now d (path_in dir name) None (has.only name fits others))) ∙ there in absurd (cc))
       (among_or_not names name new_named fits)
 
   -- under this name no folder stands, now and after each crash
@@ -301,8 +294,8 @@ module _ (d : disk.State) (dir : List ℕ) (m : ℕ) (beside : List FileName) (h
   a_file : (n : FileName) (bytes : List ℕ) → IsKeptPart dir d (record { name = n; bytes = bytes }) → HasNoFolder n
   a_file n bytes kept k is = let clash : Some (File_node kept.id) ≡ Some Folder_node = sym (kept.file.named k) ∙ is in cc
 
-  nothing : (name : FileName) → All (λ (n : FileName). spelled name ≢ spelled n) names → HasNoFolder name
-  nothing name others k is = let clash : None ≡ Some Folder_node = sym (has.only (spelled name) others k) ∙ is in cc
+  nothing : (name : FileName) → IsFileName name → All (λ (n : FileName). spelled name ≢ spelled n) names → HasNoFolder name
+  nothing name fits others k is = let clash : None ≡ Some Folder_node = sym (has.only name fits others k) ∙ is in cc
 
   a_leftover : (name : FileName) → IsThere d dir name → HasNoFolder name
   a_leftover name there k is = let clash : Some (File_node there.id) ≡ Some Folder_node = sym (there.named k) ∙ is in cc
@@ -316,7 +309,7 @@ module _ (d : disk.State) (dir : List ℕ) (m : ℕ) (beside : List FileName) (h
   are_files = record {
     no_folder = λ name k fits. ⊎_elim
         (λ among. All-contains HasNoFolder names name no_folders among k)
-        (λ others. nothing name others k)
+        (λ others. nothing name fits others k)
         (among_or_not names name new_named fits);
   }
 

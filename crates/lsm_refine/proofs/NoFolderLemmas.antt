@@ -15,7 +15,7 @@ use Rattle.lsm_disk.proofs.Paths.{path_itself, path_cases, get_put, get_put_othe
 use Rattle.lsm_model.specs.Halting.{built_in}
 use Rattle.lsm_refine.specs.Sane.{AreFiles}
 use Rattle.lsm_refine.specs.Pins.{AreClearable}
-use Rattle.lsm_refine.proofs.NewDiskLemmas.{apart_from, built_flat}
+use Rattle.lsm_refine.proofs.FolderDisks.{apart_from, built_flat}
 
 some_once : (m n : Node) → Some m ≡ Some n → m ≡ n
 some_once m n e = cc

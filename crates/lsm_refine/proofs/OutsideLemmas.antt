@@ -27,10 +27,9 @@ use Rattle.lsm_reading.specs.Reading.{reading}
 use Rattle.lsm_model.specs.declared.states.State.{State}
 use Rattle.lsm_model.specs.declared.states.FolderRead.{FolderRead}
 use Rattle.lsm_model.specs.States.{folder_of}
-use Rattle.lsm_refine.specs.Sane.{IsAlone}
-use Rattle.lsm_refine.specs.Folders.{as_shown, folder_reading, IsSure, FoldersRead, AreAlikeOutside, ChangesInside, SparesOutside, AppendsInside}
+use Rattle.lsm_refine.specs.Folders.{as_shown, folder_reading, FoldersAre, IsSure, FoldersRead, AreAlikeOutside, ChangesInside, SparesOutside, AppendsInside}
 use Rattle.lsm_refine.proofs.CrashLemmas.{listed}
-use Rattle.lsm_refine.proofs.FileLemmas.{folder_named}
+use Rattle.lsm_names.proofs.FolderLemmas.{folder_has_bytes}
 
 -- ---- folders with the same files read alike
 
@@ -43,7 +42,7 @@ module _ (t u : Tree) (name : List ℕ) (some : 1 ≤ length name) (items : (fil
   by_items file None (Some item) is was = at_name file (file_names name t file item some was)
   by_items file None None is was = is ∙ sym was
 
-  files_same : files_in name u ≡ files_in name t
+  pub files_same : files_in name u ≡ files_in name t
   files_same = finmap.same_map names_total names_exact (files_in name u) (files_in name t) (λ file. by_items file (finmap.get (files_in name u) file) (finmap.get (files_in name t) file) refl refl)
 
   reading_same : finmap.get u.names name ≡ finmap.get t.names name → folder_reading name u ≡ folder_reading name t
@@ -58,10 +57,17 @@ module _ (t u : Tree) (name : List ℕ) (some : 1 ≤ length name) (items : (fil
 
 module _ (own : List ℕ) (t u : Tree) (alike : AreAlikeOutside own t u) (name : List ℕ) (fits : is_folder_name name ≡ true) (other : name ≢ own) where
   outside_reading : folder_reading name u ≡ folder_reading name t
-  outside_reading = reading_same t u name (folder_named name fits) (λ file is. alike.items name file fits other is) (alike.names name fits other)
+  outside_reading = reading_same t u name (folder_has_bytes name fits) (λ file is. alike.items name file fits other is) (alike.names name fits other)
 
   outside_there : is_some (finmap.get u.names name) ≡ is_some (finmap.get t.names name)
   outside_there = ap is_some (alike.names name fits other)
+
+pub folders_alike : (own : List ℕ) (folders : List FolderRead) (t u : Tree) → AreAlikeOutside own t u → FoldersAre own folders t → FoldersAre own folders u
+folders_alike own folders t u alike are = record {
+  only = are.only;
+  reads = λ name fits other. outside_reading own t u alike name fits other ∙ are.reads name fits other;
+  taken = λ name fits other. are.taken name fits other ∙ sym (outside_there own t u alike name fits other);
+}
 
 module _ (d later : disk.State) (s : State) (changes : ChangesInside s.own d later) (are : FoldersRead d s) where
   sure_still : (name : List ℕ) (folder : FolderRead) → folder_of name s.folders ≡ Some folder → folder.sure ≡ true → IsSure later folder
@@ -74,19 +80,12 @@ module _ (d later : disk.State) (s : State) (changes : ChangesInside s.own d lat
       }
 
   pub folders_stay : FoldersRead later s
-  folders_stay = record {
-    now = record {
-      only = are.now.only;
-      reads = λ name fits other. outside_reading s.own (tree_now d) (tree_now later) changes.now name fits other ∙ are.now.reads name fits other;
-      taken = λ name fits other. are.now.taken name fits other ∙ sym (outside_there s.own (tree_now d) (tree_now later) changes.now name fits other);
-    };
-    sure = sure_still;
-  }
+  folders_stay = record { now = folders_alike s.own s.folders (tree_now d) (tree_now later) changes.now are.now; sure = sure_still }
 
 -- ---- an append to a file of its own
 
 -- paths of files lead back to their folders
-same_folder : (one two : List ℕ) (a b : FileName) → IsFileName a → IsFileName b → path_in one a ≡ path_in two b → one ≡ two
+pub same_folder : (one two : List ℕ) (a b : FileName) → IsFileName a → IsFileName b → path_in one a ≡ path_in two b → one ≡ two
 same_folder one two a b first second same =
     sym (parent_of_joined one (spelled a) (spelled_is_component a first)) ∙ ap parent_of same ∙ parent_of_joined two (spelled b) (spelled_is_component b second)
 
@@ -116,13 +115,10 @@ same_item bs cs id None other same = refl
 same_item bs cs id (Some Folder_node) other same = refl
 same_item bs cs id (Some (File_node k)) other same = ap (λ (o : Option (List ℕ)). Some (A_file (unwrap_or o []))) (same k (λ is. other (ap (λ (n : ℕ). Some (File_node n)) is)))
 
-module _ (d : disk.State) (own : List ℕ) (file : FileName) (id : ℕ) (more : List ℕ) (fits : IsFileName file) (there : file_at d (path_in own file) ≡ Some id) (alone : IsAlone d (path_in own file)) where
+module _ (d : disk.State) (own : List ℕ) (id : ℕ) (more : List ℕ)
+    (elsewhere : (k : ℕ) (name : List ℕ) (n : FileName) → name ≢ own → IsFileName n → finmap.get (all_named (take k d.pending) d.durable) (path_in name n) ≢ Some (File_node id)) where
   abbrev later : disk.State
   later = after d (Appended id more)
-
-  -- no name outside leads to the file
-  elsewhere : (k : ℕ) (name : List ℕ) (n : FileName) → name ≢ own → IsFileName n → finmap.get (all_named (take k d.pending) d.durable) (path_in name n) ≢ Some (File_node id)
-  elsewhere k name n other is leads = other (same_folder name own n file is fits (alone.only id k (path_in name n) there leads))
 
   alike_by : (k : ℕ) (names : Names) (bs cs : List (List ℕ)) → names ≡ all_named (take k d.pending) d.durable → ((n : ℕ) → n ≢ id → slice_get bs n ≡ slice_get cs n)
       → AreAlikeOutside own (record { names = names; contents = cs }) (record { names = names; contents = bs })
@@ -132,7 +128,7 @@ module _ (d : disk.State) (own : List ℕ) (file : FileName) (id : ℕ) (more : 
         (λ leads. elsewhere k name n other named (ap (λ (m : Names). finmap.get m (path_in name n)) (sym is) ∙ leads)) same;
   }
 
-  append_inside : ChangesInside own d later
+  pub append_inside : ChangesInside own d later
   append_inside = record {
     now = alike_by (reads_image d).kept (names_now d) (contents_of later.files) (contents_of d.files) (reads_image d).names (λ k other. contents_other (longer more) d.files k id other);
     images = λ u i. let old = cuts_before more d.files id u.contents i.files in
@@ -159,7 +155,7 @@ new_bytes [] (suc id) = refl
 new_bytes (b ∷ bs) zero = refl
 new_bytes (b ∷ bs) (suc id) = new_bytes bs id
 
-new_item : (bs : List (List ℕ)) (node : Option Node) → option_map (item_of (bs ++ [] ∷ [])) node ≡ option_map (item_of bs) node
+pub new_item : (bs : List (List ℕ)) (node : Option Node) → option_map (item_of (bs ++ [] ∷ [])) node ≡ option_map (item_of bs) node
 new_item bs None = refl
 new_item bs (Some Folder_node) = refl
 new_item bs (Some (File_node id)) = ap (λ (b : List ℕ). Some (A_file b)) (new_bytes bs id)
@@ -236,7 +232,8 @@ module _ (own : List ℕ) (d : disk.State) where
   pub change_inside : (c : Change) → SparesOutside own c → AppendsInside d own c → ChangesInside own d (after d c)
   change_inside (Created path) spares inside = created_inside path spares
   change_inside (Named op) spares inside = named_inside op spares
-  change_inside (Appended id more) spares inside = append_inside d own inside.0 id more inside.1 inside.2 inside.3
+  change_inside (Appended id more) spares inside = append_inside d own id more
+      (λ k name n other is leads. other (same_folder name own n inside.0 is inside.1 (inside.3.only id k (path_in name n) inside.2 leads)))
   change_inside (Synced id) spares inside = synced_inside id
   change_inside Names_synced spares inside = record { now = alike_itself own (tree_now d); images = λ u i. (u, names_synced_image d u i, alike_itself own u) }
   change_inside Idle spares inside = record { now = alike_itself own (tree_now d); images = λ u i. (u, i, alike_itself own u) }
@@ -261,7 +258,7 @@ inside_both own d mid later first second = record {
 no_path : (name own : List ℕ) (file : FileName) → is_folder_name name ≡ true → is_folder_name own ≡ true → IsFileName file → name ≢ path_in own file
 no_path name own file fits named is same =
     let root : own ≡ [] = sym (parent_of_joined own (spelled file) (spelled_is_component file is)) ∙ ap parent_of (sym same) ∙ in_root name fits in
-    omega (arith, folder_named own named, ap (λ (p : List ℕ). length p) root)
+    omega (arith, folder_has_bytes own named, ap (λ (p : List ℕ). length p) root)
 
 pub created_spares : (own : List ℕ) (file : FileName) → is_folder_name own ≡ true → IsFileName file → SparesOutside own (Created (path_in own file))
 created_spares own file named is = record {

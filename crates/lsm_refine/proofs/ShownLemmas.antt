@@ -7,13 +7,12 @@ use Rattle.std.proofs.lemmas.List.Sorted.{All-permutation}
 use Rattle.std.proofs.Math.Seq.{drop-append_seam, take-append_seam}
 use Rattle.std.specs.FinMap as finmap
 use Rattle.lsm_rows.specs.declared.operations.Op.{Op}
-use Rattle.lsm_rows.specs.declared.operations.Op.TheVariants.{Put, Delete}
 use Rattle.lsm_rows.specs.declared.rows.Row.{Row}
 use Rattle.lsm_rows.specs.Replay.{Contents, replayed, sequence_after}
 use Rattle.lsm_rows.specs.Rows.{row_of, batch_rows, rows_of}
 use Rattle.lsm_rows.specs.Contents.{contents_of, newest}
 use Rattle.lsm_rows.proofs.NewestRows.{newest_of, newest-append, contents_by_newest}
-use Rattle.lsm_rows.proofs.ReplayedRows.{contents_replayed}
+use Rattle.lsm_rows.proofs.ReplayedRows.{contents_replayed, sequence-is}
 use Rattle.lsm_disk.specs.State as disk
 use Rattle.lsm_disk.specs.State.{state_of}
 use Rattle.lsm_disk.specs.declared.calls.Halt.{Halt}
@@ -28,32 +27,25 @@ use Rattle.lsm_refine.specs.Parts.{Parts, AreRowsOf, batches_in, logged, first_l
 use Rattle.lsm_refine.specs.Good.{AreInOrder, ShowsAccepted, IsRunning, IsInMode, Good, rows_kept, first_active}
 use Rattle.lsm_refine.proofs.TiedLemmas.{tables_before}
 use Rattle.lsm_rows.proofs.Replaying.{sequence_next, sequence_both, replayed_both}
+use Rattle.lsm_model.proofs.RunLemmas.{sequence_rises}
 
 -- ---- rows of two lists of batches
 
-rows_both : (first : ℕ) (one two : List (List Op)) → rows_of first (one ++ two) ≡ rows_of first one ++ rows_of (sequence_after first one) two
+pub rows_both : (first : ℕ) (one two : List (List Op)) → rows_of first (one ++ two) ≡ rows_of first one ++ rows_of (sequence_after first one) two
 rows_both first [] two = refl
 rows_both first (ops ∷ one) two =
     ap (λ (rows : List Row). batch_rows first ops ++ rows) (rows_both (first + length ops) one two)
     ∙ sym (append_assoc (batch_rows first ops) (rows_of (first + length ops) one) (rows_of (sequence_after (first + length ops) one) two))
-
-sequence_grows : (first : ℕ) (batches : List (List Op)) → first ≤ sequence_after first batches
-sequence_grows first [] = omega arith
-sequence_grows first (ops ∷ batches) = omega (arith, sequence_grows (first + length ops) batches)
 
 -- ---- the sequences of rows
 
 abbrev IsWithin : ℕ → ℕ → Row → Type 0
 IsWithin low high row = (low ≤ row.sequence) × (row.sequence < high)
 
-row_is : (sequence : ℕ) (op : Op) → (row_of sequence op).sequence ≡ sequence
-row_is sequence (Put key value) = refl
-row_is sequence (Delete key) = refl
-
 batch_within : (first : ℕ) (ops : List Op) → All (IsWithin first (first + length ops)) (batch_rows first ops)
 batch_within first [] = All-nil (IsWithin first (first + 0))
 batch_within first (op ∷ ops) =
-    All-cons (IsWithin first (first + length (op ∷ ops))) (row_of first op) (batch_rows (first + 1) ops) (omega (arith, row_is first op), omega (arith, row_is first op))
+    All-cons (IsWithin first (first + length (op ∷ ops))) (row_of first op) (batch_rows (first + 1) ops) (omega (arith, sequence-is first op), omega (arith, sequence-is first op))
     (All-weaker (IsWithin (first + 1) (first + 1 + length ops)) (IsWithin first (first + length (op ∷ ops))) (λ row is. (omega (arith, is.0), omega (arith, is.1))) (batch_rows (first + 1) ops) (batch_within (first + 1) ops))
 
 rows_within : (first : ℕ) (batches : List (List Op)) → All (IsWithin first (sequence_after first batches)) (rows_of first batches)
@@ -62,7 +54,7 @@ rows_within first (ops ∷ batches) =
     let next : ℕ = first + length ops in
     let end : ℕ = sequence_after next batches in
     All-append (IsWithin first end) (batch_rows first ops) (rows_of next batches)
-    (All-weaker (IsWithin first next) (IsWithin first end) (λ row is. (is.0, omega (arith, is.1, sequence_grows next batches))) (batch_rows first ops) (batch_within first ops))
+    (All-weaker (IsWithin first next) (IsWithin first end) (λ row is. (is.0, omega (arith, is.1, sequence_rises next batches))) (batch_rows first ops) (batch_within first ops))
     (All-weaker (IsWithin next end) (IsWithin first end) (λ row is. (omega (arith, is.0), is.1)) (rows_of next batches) (rows_within next batches))
 
 -- ---- a running store
@@ -92,7 +84,7 @@ module _ (d : disk.State) (v : Shown) (s : State) (is : IsRunning d v s) where
       ∙ ap (λ (o : Option Row). newest_of (newest key table_rows) o) (in_memory key)
       ∙ sym (newest-append table_rows (rows_of (first_logged parts) (logged parts)) key)
 
-  running_shown : contents_of (rows_kept v.kept parts.rows) ≡ contents_now s
+  pub running_shown : contents_of (rows_kept v.kept parts.rows) ≡ contents_now s
   running_shown =
       ap (λ (tables : Tables). contents_of (rows_of_tables tables parts.rows ++ (v.kept.frozen ++ v.kept.active))) is.sane.edits.version
       ∙ contents_by_newest (table_rows ++ (v.kept.frozen ++ v.kept.active)) (table_rows ++ rows_of (first_logged parts) (logged parts)) all_rows
@@ -136,7 +128,7 @@ module _ (d : disk.State) (v : Shown) (s : State) (is : IsRunning d v s) where
       ∙ ap (λ (n : ℕ). n + 1) (sequence_both s.began (take is.tied.flushed s.accepted) older)
       ∙ ap (λ (l : List (List Op)). sequence_after s.began l + 1) (sym front_is)
 
-  running_active : AreRowsOf (first_active s) (active_batches s) v.kept.active
+  pub running_active : AreRowsOf (first_active s) (active_batches s) v.kept.active
   running_active =
       subst (λ (n : ℕ). AreRowsOf n (active_batches s) v.kept.active) first_is
       (subst (λ (l : List (List Op)). AreRowsOf (first_in_last parts) l v.kept.active) (sym active_are) is.sane.logs.active)
@@ -149,7 +141,7 @@ module _ (d : disk.State) (v : Shown) (s : State) (is : IsRunning d v s) where
       All-permutation (IsWithin (first_logged parts) (first_in_last parts)) (rows_of (first_logged parts) older) v.kept.frozen is.sane.logs.frozen.same
       (rows_within (first_logged parts) older)
 
-  running_order : AreInOrder v.kept parts.rows (first_active s)
+  pub running_order : AreInOrder v.kept parts.rows (first_active s)
   running_order = record {
     leveled = subst (λ (tables : Tables). IsLeveled tables parts.rows) (sym is.sane.edits.version) is.sane.lawful.leveled;
     listed = λ number placed found.
@@ -158,7 +150,7 @@ module _ (d : disk.State) (v : Shown) (s : State) (is : IsRunning d v s) where
     frozen =
         All-weaker (IsWithin (first_logged parts) (first_in_last parts)) (λ (row : Row). (v.kept.last < row.sequence) × (row.sequence < first_active s))
         (λ row within. (omega (arith, last_is, within.0), omega (arith, first_is, within.1))) v.kept.frozen frozen_within;
-    last = omega (arith, last_is, first_is, sequence_grows (first_logged parts) older);
+    last = omega (arith, last_is, first_is, sequence_rises (first_logged parts) older);
   }
 
   pub running_shows : ShowsAccepted d v s

@@ -1,16 +1,16 @@
 -- Logs cut anywhere from the synced batches on stand for a front of the accepted batches that has the durable ones.
-use Rattle.std.specs.Prelude.{◌≡◌, ℕ, ◌+◌, ◌<◌, ◌≤◌, List, [], ◌∷◌, ◌++◌, map, take, drop, length, T, Some}
-use Rattle.std.proofs.Common.{refl, sym, ap, ◌∙◌, arith, append_assoc}
-use Rattle.std.proofs.lemmas.List.{append-nil}
+use Rattle.std.specs.Prelude.{◌≡◌, ℕ, ◌+◌, ◌-◌, ◌<◌, ◌≤◌, List, [], ◌∷◌, ◌++◌, map, take, drop, length, T, Some}
+use Rattle.std.proofs.Common.{sym, ap, ◌∙◌, arith, append_assoc}
+use Rattle.std.proofs.lemmas.List.{append-nil, length-append, length-drop}
 use Rattle.std.proofs.lemmas.List.Elements.{All-nil, All-append, All-weaker}
 use Rattle.std.proofs.Math.Seq.{take-add, take-append-add}
-use Rattle.std.specs.List.{flat_map, fold}
+use Rattle.std.specs.List.{flat_map}
 use Rattle.std.specs.Ordering.{nat_cmp}
 use Rattle.std.specs.FinMap as finmap
 use Rattle.std.specs.FinMap.Entries.{below_all, is_sorted}
 use Rattle.lsm_rows.specs.declared.operations.Op.{Op}
 use Rattle.lsm_rows.specs.declared.rows.Row.{Row}
-use Rattle.lsm_rows.specs.Replay.{Contents, applied, replayed, sequence_after}
+use Rattle.lsm_rows.specs.Replay.{Contents, replayed, sequence_after}
 use Rattle.lsm_rows.specs.Contents.{AllBefore, contents_of}
 use Rattle.lsm_rows.proofs.ReplayedRows.{contents_replayed}
 use Rattle.lsm_version.specs.declared.tables.Placed.{Placed}
@@ -46,6 +46,13 @@ tables_before parts are =
 pub all_with : (older : List LogPart) (batches : List (List Op)) → all_of (map (λ (log : LogPart). log.batches) older ++ batches ∷ []) ≡ batches_in older ++ batches
 all_with [] batches = append-nil batches
 all_with (log ∷ logs) batches = ap (λ (l : List (List Op)). log.batches ++ l) (all_with logs batches) ∙ sym (append_assoc log.batches (batches_in logs) batches)
+
+-- how many batches there are, in tables, in older logs and in the last one
+pub logged_many : (parts : Parts) (s : State) (tied : Tied parts s) → tied.flushed + (length (batches_in parts.older) + length parts.last.batches) ≡ length s.accepted
+logged_many parts s tied =
+    let many : length (batches_in parts.older) + length parts.last.batches ≡ length s.accepted - tied.flushed =
+    sym (length-append (batches_in parts.older) parts.last.batches) ∙ ap (λ (l : List (List Op)). length l) tied.above ∙ length-drop tied.flushed s.accepted in
+    omega (arith, many, tied.within)
 
 -- ---- the law
 

@@ -1,27 +1,19 @@
 -- A store stays good where nothing changes but the disk's counts and its clock, also where a call that did nothing halts it.
-use Rattle.std.specs.Prelude.{◌≡◌, ℕ, List, [], ◌∷◌, Option, Some, None}
+use Rattle.std.specs.Prelude.{◌≡◌, ℕ, Option, Some, None}
 use Rattle.std.proofs.Common.{refl, sym, subst}
 use Rattle.lsm_disk.specs.State as disk
 use Rattle.lsm_disk.specs.State.{Seen, Story, state_of}
 use Rattle.lsm_disk.specs.Images.{Tree, tree_now}
 use Rattle.lsm_disk.specs.declared.calls.Halt.{Halt}
 use Rattle.lsm_model.specs.declared.states.State.{State}
-use Rattle.lsm_model.specs.declared.states.Pin.{Pin}
-use Rattle.lsm_refine.specs.Kept.{KeptPin, Shown}
-use Rattle.lsm_refine.specs.Pins.{ArePins, AreClearable, IsKeptPin, Pinned}
+use Rattle.lsm_refine.specs.Kept.{Shown}
+use Rattle.lsm_refine.specs.Pins.{AreClearable, Pinned}
 use Rattle.lsm_refine.specs.Folders.{StandsFor, StandsFrom, FoldersRead}
 use Rattle.lsm_refine.specs.Good.{ShowsAccepted, IsRunning, IsHalted, IsInMode, KeptIs, Good, IsUnchanged, with_counts, stopped}
 use Rattle.lsm_refine.proofs.GoodLemmas.{running_now, running_image}
 use Rattle.lsm_refine.proofs.ShownLemmas.{running_shows}
+use Rattle.lsm_refine.proofs.PinnedLemmas.{pins_alike}
 use Rattle.lsm_refine.proofs.ViewLemmas.{viewed_good}
-
--- ---- pins, one by one
-
-pins_fit : (Fits Also : KeptPin → Pin → Type 0) → ((kept : KeptPin) (pin : Pin) → Fits kept pin → Also kept pin) → (kept : List KeptPin) (pins : List Pin) → ArePins Fits kept pins → ArePins Also kept pins
-pins_fit Fits Also more [] [] are = tt
-pins_fit Fits Also more [] (pin ∷ pins) are = are
-pins_fit Fits Also more (k ∷ kept) [] are = are
-pins_fit Fits Also more (k ∷ kept) (pin ∷ pins) are = (more k pin are.0, pins_fit Fits Also more kept pins are.1)
 
 -- ---- the state's counts and its halting call
 
@@ -34,17 +26,6 @@ module _ (seen : Seen) (halt : Option Halt) (s : State) where
 
   stands_from : (least : ℕ) (tree : Tree) → StandsFrom s least tree → StandsFrom t least tree
   stands_from least tree is = record { count = is.count; enough = is.enough; within = is.within; stands = stands_for tree is.count is.stands }
-
-  kept_pin : (kept : KeptPin) (pin : Pin) → IsKeptPin s kept pin → IsKeptPin t kept pin
-  kept_pin kept pin is = record {
-    number = is.number;
-    sequence = is.sequence;
-    files = is.files;
-    manifest = is.manifest;
-    holder = is.holder;
-    within = is.within;
-    stands = is.stands;
-  }
 
   module _ (d : disk.State) (v : Shown) where
     abbrev w : Shown
@@ -104,7 +85,7 @@ module _ (seen : Seen) (halt : Option Halt) (s : State) where
     }
 
     pinned : Pinned d v.dir v.kept.pins s → Pinned d v.dir v.kept.pins t
-    pinned is = record { pins = pins_fit (IsKeptPin s) (IsKeptPin t) kept_pin v.kept.pins s.pins is.pins; files = is.files }
+    pinned is = record { pins = pins_alike s t refl refl refl v.kept.pins s.pins is.pins; files = is.files }
 
     folders : FoldersRead d s → FoldersRead d t
     folders is = record { now = is.now; sure = is.sure }

@@ -1,7 +1,7 @@
 -- What a store's tables have on its disk; and that a store stays good where views of them are closed, or opened over what
 -- the files have.
 use Rattle.std.specs.Prelude.{◌≡◌, ℕ, List, Option, Some, None}
-use Rattle.std.proofs.Common.{ap, ◌∙◌, inl, inr, ⊎_elim}
+use Rattle.std.proofs.Common.{◌∙◌, inl, inr, ⊎_elim}
 use Rattle.std.specs.Ordering.{nat_cmp}
 use Rattle.std.specs.FinMap as finmap
 use Rattle.lsm_names.specs.declared.file_names.FileName.{FileName}
@@ -9,27 +9,18 @@ use Rattle.lsm_names.specs.declared.file_names.FileName.TheVariants.{Log, Table,
 use Rattle.lsm_rows.specs.declared.rows.Row.{Row}
 use Rattle.lsm_disk.specs.State as disk
 use Rattle.lsm_disk.specs.State.{state_of}
-use Rattle.lsm_disk.specs.Images.{Tree, IsImage, tree_now}
+use Rattle.lsm_disk.specs.Images.{tree_now}
 use Rattle.lsm_disk.specs.Dest.{path_in}
 use Rattle.lsm_disk.specs.Viewed.{Viewed}
 use Rattle.lsm_disk.specs.declared.calls.Halt.{Halt}
 use Rattle.lsm_disk.proofs.Images.{reads_image}
 use Rattle.lsm_version.specs.declared.tables.Placed.{Placed}
-use Rattle.lsm_version.specs.Levels.{Tables}
 use Rattle.lsm_model.specs.declared.states.State.{State}
 use Rattle.lsm_refine.specs.Kept.{Kept, Shown}
 use Rattle.lsm_refine.specs.Parts.{Parts}
-use Rattle.lsm_refine.specs.Sane.{IsNeeded, HasTable, HasTables, HasWholeTables, Sane}
+use Rattle.lsm_refine.specs.Sane.{IsNeeded, HasTable, HasTables, Sane}
 use Rattle.lsm_refine.specs.Good.{ViewsTell, ShowsAccepted, IsRunning, IsHalted, IsInMode, Good}
 use Rattle.lsm_refine.proofs.FileLemmas.{whole_image}
-
--- the live tables are whole in each image
-pub tables_whole : (d : disk.State) (dir : List ℕ) (kept : Kept) (parts : Parts) → Sane d dir kept parts → (t : Tree) → IsImage d t → HasWholeTables dir parts.edits parts.rows t
-tables_whole d dir kept parts sane t i = record {
-  each = λ number placed is.
-      let table = sane.tables.each number placed (ap (λ (tables : Tables). finmap.get tables number) sane.edits.version ∙ is) in
-      (table.bytes, whole_image d (path_in dir (Table number)) table.bytes table.file t i, table.table);
-}
 
 module _ (d : disk.State) (v : Shown) (views : finmap.FinMap nat_cmp Viewed) (tell : ViewsTell d v views) where
   abbrev k : Kept
@@ -89,7 +80,7 @@ module _ (d : disk.State) (v : Shown) (views : finmap.FinMap nat_cmp Viewed) (te
       frozen = is.logs.frozen;
       active = is.logs.active;
     };
-    quiet = record { spares = λ name held. is.quiet.spares name (⊎_elim (λ n. inl (needed name n)) (λ p. inr p) held) };
+    quiet = record { spares = λ name fits held. is.quiet.spares name fits (⊎_elim (λ n. inl (needed name n)) (λ p. inr p) held) };
     known = record { there = is.known.there; all = is.known.all };
     files = is.files;
     lawful = is.lawful;

@@ -15,7 +15,7 @@ use Rattle.lsm_disk.specs.declared.calls.Halt.{Halt}
 use Rattle.lsm_version.specs.declared.tables.Place.{Place}
 use Rattle.lsm_version.specs.Levels.{Tables}
 use Rattle.lsm_version.specs.Versions.{coded_tables}
-use Rattle.lsm_refine.specs.Kept.{Job, KeptPin, Unfinished, Kept, Shown}
+use Rattle.lsm_refine.specs.Kept.{Job, KeptPin, Unfinished, Flushing, Kept, Shown}
 
 -- ---- what a store keeps
 
@@ -32,20 +32,24 @@ coded_views = finmap.code coded_ℕ coded_viewed
 
 abbrev pub coded_job : Coded Job
 coded_job =
-    code_by (List ℕ × (ℕ × (Bool × ℕ))) (coded× coded_bytes (coded× coded_ℕ (coded× coded_bool coded_ℕ))) (λ j. (j.dir, (j.left, (j.made, j.copied))))
+    code_by (List ℕ × (ℕ × (Bool × ℕ))) (coded× coded_bytes (coded× coded_ℕ (coded× coded_bool coded_ℕ)))
+    (λ j. (j.dir, (j.left, (j.made, j.copied))))
     (λ p. record { dir = p.0; left = p.1.0; made = p.1.1.0; copied = p.1.1.1 }) (λ _. refl)
 
 abbrev pub coded_pin : Coded KeptPin
 coded_pin =
-    code_by (ℕ × (ℕ × (ℕ × (List (FileName × ℕ) × Option Job)))) (coded× coded_ℕ (coded× coded_ℕ (coded× coded_ℕ (coded× (coded_list (coded× coded_name coded_ℕ)) (coded_option coded_job)))))
+    code_by (ℕ × (ℕ × (ℕ × (List (FileName × ℕ) × Option Job))))
+    (coded× coded_ℕ (coded× coded_ℕ (coded× coded_ℕ (coded× (coded_list (coded× coded_name coded_ℕ)) (coded_option coded_job)))))
     (λ p. (p.number, (p.sequence, (p.manifest, (p.files, p.job)))))
     (λ p. record { number = p.0; sequence = p.1.0; manifest = p.1.1.0; files = p.1.1.1.0; job = p.1.1.1.1 }) (λ _. refl)
 
 abbrev pub coded_unfinished : Coded Unfinished
-coded_unfinished = code_by (ℕ × List ℕ) (coded× coded_ℕ coded_bytes) (λ u. (u.number, u.bytes)) (λ p. record { number = p.0; bytes = p.1 }) (λ _. refl)
+coded_unfinished = code_by (ℕ × List ℕ) (coded× coded_ℕ coded_bytes) (λ u. (u.number, u.bytes))
+    (λ p. record { number = p.0; bytes = p.1 }) (λ _. refl)
 
 abbrev pub coded_begun : Coded Begun
-coded_begun = code_by (List ℕ × List FileName) (coded× coded_bytes (coded_list coded_name)) (λ b. (b.folder, b.names)) (λ p. record { folder = p.0; names = p.1 }) (λ _. refl)
+coded_begun = code_by (List ℕ × List FileName) (coded× coded_bytes (coded_list coded_name)) (λ b. (b.folder, b.names))
+    (λ p. record { folder = p.0; names = p.1 }) (λ _. refl)
 
 -- the tables and what is read of them
 abbrev pub Live : Type 0
@@ -63,7 +67,7 @@ abbrev pub Pins : Type 0
 Pins = List KeptPin × (ℕ × ℕ)
 
 abbrev pub UnderWay : Type 0
-UnderWay = List Unfinished × ((Option (List Place) × ℕ) × (Option Begun × Option FileName))
+UnderWay = (Flushing × List Unfinished) × (((Option (List Place) × ℕ) × (ℕ × ℕ)) × (Option Begun × Option FileName))
 
 abbrev pub coded_live : Coded Live
 coded_live = coded× coded_tables (coded× coded_views (coded× coded_ℕ coded_ℕ))
@@ -78,9 +82,15 @@ coded_files = coded× coded_ℕ (coded× coded_ℕ (coded× coded_ℕ (coded_lis
 abbrev pub coded_pins : Coded Pins
 coded_pins = coded× (coded_list coded_pin) (coded× coded_ℕ coded_ℕ)
 
+abbrev pub coded_flushing : Coded Flushing
+coded_flushing = code_by (ℕ × Option ℕ) (coded× coded_ℕ (coded_option coded_ℕ)) (λ f. (f.taken, f.table))
+    (λ p. record { taken = p.0; table = p.1 }) (λ _. refl)
+
 abbrev pub coded_under_way : Coded UnderWay
 coded_under_way =
-    coded× (coded_list coded_unfinished) (coded× (coded× (coded_option (coded_list coded_place)) coded_ℕ) (coded× (coded_option coded_begun) (coded_option coded_name)))
+    coded× (coded× coded_flushing (coded_list coded_unfinished))
+    (coded× (coded× (coded× (coded_option (coded_list coded_place)) coded_ℕ) (coded× coded_ℕ coded_ℕ))
+    (coded× (coded_option coded_begun) (coded_option coded_name)))
 
 abbrev pub Parts : Type 0
 Parts = Live × (Written × (Files × (Pins × UnderWay)))
@@ -94,7 +104,7 @@ parts_of k = (
       (k.manifest, (k.manifest_len, (k.next, k.known))),
       (
         (k.pins, (k.greatest_pin, k.disables)),
-        (k.unfinished, ((k.merging, k.outputs), (k.begun, k.hand))),
+        ((k.flushing, k.unfinished), (((k.merging, k.merge_level), (k.outputs, k.merged)), (k.begun, k.hand))),
       ),
     ),
   ),
@@ -119,15 +129,19 @@ kept_of p = record {
   pins = p.1.1.1.0.0;
   greatest_pin = p.1.1.1.0.1.0;
   disables = p.1.1.1.0.1.1;
-  unfinished = p.1.1.1.1.0;
-  merging = p.1.1.1.1.1.0.0;
-  outputs = p.1.1.1.1.1.0.1;
+  flushing = p.1.1.1.1.0.0;
+  unfinished = p.1.1.1.1.0.1;
+  merging = p.1.1.1.1.1.0.0.0;
+  merge_level = p.1.1.1.1.1.0.0.1;
+  outputs = p.1.1.1.1.1.0.1.0;
+  merged = p.1.1.1.1.1.0.1.1;
   begun = p.1.1.1.1.1.1.0;
   hand = p.1.1.1.1.1.1.1;
 }
 
 abbrev pub coded_kept : Coded Kept
-coded_kept = code_by Parts (coded× coded_live (coded× coded_written (coded× coded_files (coded× coded_pins coded_under_way)))) parts_of kept_of (λ _. refl)
+coded_kept = code_by Parts (coded× coded_live (coded× coded_written
+    (coded× coded_files (coded× coded_pins coded_under_way)))) parts_of kept_of (λ _. refl)
 
 abbrev pub coded_shown : Coded Shown
 coded_shown =

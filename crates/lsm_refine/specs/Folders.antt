@@ -67,8 +67,10 @@ folder_reading dir t = as_shown dir (reading (place_of dir t))
 -- No others are listed.
 pub record FoldersAre (own : List ℕ) (folders : List FolderRead) (t : Tree) : Type 0 where
   pub only : All (λ (folder : FolderRead). (is_folder_name folder.name ≡ true) × (folder.name ≢ own)) folders
-  pub reads : (name : List ℕ) → is_folder_name name ≡ true → name ≢ own → folder_reading name t ≡ known_reading name (folder_of name folders)
-  pub taken : (name : List ℕ) → is_folder_name name ≡ true → name ≢ own → is_some (folder_of name folders) ≡ is_some (finmap.get t.names name)
+  pub reads : (name : List ℕ) → is_folder_name name ≡ true → name ≢ own
+      → folder_reading name t ≡ known_reading name (folder_of name folders)
+  pub taken : (name : List ℕ) → is_folder_name name ≡ true → name ≢ own
+      → is_some (folder_of name folders) ≡ is_some (finmap.get t.names name)
 
 -- the folder is there in each image and reads as its entry says
 pub record IsSure (d : disk.State) (folder : FolderRead) : Type 0 where
@@ -85,7 +87,8 @@ pub record FoldersRead (d : disk.State) (s : State) : Type 0 where
 -- two trees have the same under each folder's name but the store's own: what stands there, and the files inside
 pub record AreAlikeOutside (own : List ℕ) (t u : Tree) : Type 0 where
   pub names : (name : List ℕ) → is_folder_name name ≡ true → name ≢ own → finmap.get u.names name ≡ finmap.get t.names name
-  pub items : (name : List ℕ) (file : FileName) → is_folder_name name ≡ true → name ≢ own → IsFileName file → item_at u (path_in name file) ≡ item_at t (path_in name file)
+  pub items : (name : List ℕ) (file : FileName) → is_folder_name name ≡ true → name ≢ own → IsFileName file
+      → item_at u (path_in name file) ≡ item_at t (path_in name file)
 
 -- outside the store's own folder the later disk has now what the earlier one has, and each of its images what one of the
 -- earlier one has
@@ -96,11 +99,13 @@ pub record ChangesInside (own : List ℕ) (d later : disk.State) : Type 0 where
 -- the change leaves each folder's name but the store's own, and the names of the files inside
 pub record SparesOutside (own : List ℕ) (c : Change) : Type 0 where
   pub names : (name : List ℕ) → is_folder_name name ≡ true → name ≢ own → SparesName name c
-  pub files : (name : List ℕ) (file : FileName) → is_folder_name name ≡ true → name ≢ own → IsFileName file → SparesName (path_in name file) c
+  pub files : (name : List ℕ) (file : FileName) → is_folder_name name ≡ true → name ≢ own → IsFileName file
+      → SparesName (path_in name file) c
 
 -- what is appended to is a file of the store's own folder that has no other name
 abbrev pub AppendsInside : disk.State → List ℕ → Change → Type 0
-AppendsInside d own (Appended id bytes) = (file : FileName) × IsFileName file × (file_at d (path_in own file) ≡ Some id) × IsAlone d (path_in own file)
+AppendsInside d own (Appended id bytes) = (file : FileName) × IsFileName file × (file_at d (path_in own file) ≡ Some id)
+    × IsAlone d (path_in own file)
 AppendsInside d own other = Unit {0}
 
 -- ---- a whole disk

@@ -44,6 +44,8 @@ pub record HasFirst (dir : List ℕ) (parts : Parts) (t : Tree) : Type 0 where
 -- The rows of the parts, with the first so many batches of the last log, stand for this front of the accepted batches, and
 -- end at its last sequence. The durable batches are in it.
 pub record ShowsFirst (parts : Parts) (s : State) (kept count : ℕ) : Type 0 where
-  pub contents : contents_of (rows_of_all parts.edits parts.rows (batches_with parts (take kept parts.last.batches))) ≡ replayed s.opening (take count s.accepted)
-  pub sequence : sequence_after (last_after parts.edits) (all_of (batches_with parts (take kept parts.last.batches))) ≡ sequence_after s.began (take count s.accepted)
+  pub contents : contents_of (rows_of_all parts.edits parts.rows (batches_with parts (take kept parts.last.batches)))
+      ≡ replayed s.opening (take count s.accepted)
+  pub sequence : sequence_after (last_after parts.edits) (all_of (batches_with parts (take kept parts.last.batches)))
+      ≡ sequence_after s.began (take count s.accepted)
   pub durable : s.durable ≤ count

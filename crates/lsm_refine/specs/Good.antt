@@ -52,7 +52,8 @@ first_active s = sequence_after s.began (take (length s.accepted - s.active) s.a
 -- their rows come before the frozen ones, which come before the first active sequence.
 pub record AreInOrder (kept : Kept) (rows : ℕ → List Row) (first : ℕ) : Type 0 where
   pub leveled : IsLeveled kept.version rows
-  pub listed : (number : ℕ) (placed : Placed) → finmap.get kept.version number ≡ Some placed → IsAsListed placed.info (rows number) kept.last
+  pub listed : (number : ℕ) (placed : Placed) → finmap.get kept.version number ≡ Some placed
+      → IsAsListed placed.info (rows number) kept.last
   pub frozen : All (λ (row : Row). (kept.last < row.sequence) × (row.sequence < first)) kept.frozen
   pub last : kept.last < first
 

@@ -33,6 +33,11 @@ pub record Unfinished : Type 0 where
   pub number : ℕ
   pub bytes : List ℕ
 
+-- how far the flush of the frozen rows came: how many of them it has taken, and the number of its table, once one is drawn
+pub record Flushing : Type 0 where
+  pub taken : ℕ
+  pub table : Option ℕ
+
 -- What a store keeps of itself.
 pub record Kept : Type 0 where
   -- the live tables by their numbers, the views of them, the number from which on logs are needed, and the last sequence in
@@ -59,11 +64,14 @@ pub record Kept : Type 0 where
   pub pins : List KeptPin
   pub greatest_pin : ℕ
   pub disables : ℕ
-  -- what is under way: the tables that are written, the inputs of the compaction, how many tables it has begun, and the
-  -- folder that a restore builds, with the file in hand
+  -- what is under way: the flush; the tables that are written; the inputs of the compaction, the level that it writes to, how
+  -- many tables it has begun and how many rows it has taken; and the folder that a restore builds, with the file in hand
+  pub flushing : Flushing
   pub unfinished : List Unfinished
   pub merging : Option (List Place)
+  pub merge_level : ℕ
   pub outputs : ℕ
+  pub merged : ℕ
   pub begun : Option Begun
   pub hand : Option FileName
 

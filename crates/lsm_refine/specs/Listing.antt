@@ -1,6 +1,7 @@
 -- Which files a cut lists of what a store keeps, on every disk, also on one that tells nothing.
-use Rattle.std.specs.Prelude.{◌≡◌, ℕ, ◌-◌, ◌==◌, if◌then◌else◌, List, [], ◌∷◌, ◌++◌, map, take, drop, length, Some, None}
+use Rattle.std.specs.Prelude.{◌≡◌, ℕ, ◌-◌, List, [], ◌∷◌, ◌++◌, map, take, drop, length, Some, None}
 use Rattle.std.specs.FinMap as finmap
+use Prim.Native.Nat.{zero, suc}
 use Rattle.lsm_names.specs.declared.file_names.FileName.TheVariants.{Log, Table, Manifest}
 use Rattle.lsm_version.specs.declared.tables.Placed.{Placed}
 use Rattle.lsm_model.specs.declared.cuts.Cut.{Cut}
@@ -13,7 +14,8 @@ table_listed table = record { name = Table table.0; len = table.1.info.size; ses
 
 -- logs of this length, where they aren't empty
 abbrev pub logs_listed : ℕ → List ℕ → List CutFile
-logs_listed len numbers = if len == 0 then [] else map (λ (number : ℕ). record { name = Log number; len = len; session = None }) numbers
+logs_listed zero numbers = []
+logs_listed (suc less) numbers = map (λ (number : ℕ). record { name = Log number; len = suc less; session = None }) numbers
 
 abbrev pub manifest_listed : Kept → CutFile
 manifest_listed kept = record { name = Manifest kept.manifest; len = kept.manifest_len; session = None }
@@ -22,9 +24,8 @@ manifest_listed kept = record { name = Manifest kept.manifest; len = kept.manife
 abbrev pub files_listed : Kept → List CutFile
 files_listed kept =
     map table_listed (finmap.entries kept.version)
-    ++ logs_listed kept.older_len (take (length kept.logs - 1) kept.logs)
-    ++ logs_listed kept.log_len (drop (length kept.logs - 1) kept.logs)
-    ++ manifest_listed kept ∷ []
+    ++ (logs_listed kept.older_len (take (length kept.logs - 1) kept.logs)
+    ++ (logs_listed kept.log_len (drop (length kept.logs - 1) kept.logs) ++ manifest_listed kept ∷ []))
 
 -- a cut lists them as they are behind it, and tells the manifest's number
 pub record ListsLive (kept : Kept) (cut : Cut) : Type 0 where

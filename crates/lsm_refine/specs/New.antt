@@ -7,10 +7,10 @@ use Rattle.lsm_names.specs.declared.file_names.FileName.{FileName}
 use Rattle.lsm_names.specs.declared.file_names.FileName.TheVariants.{Log, Table, Manifest, Temp, Current}
 use Rattle.lsm_disk.specs.Names.{Folder_node, File_node}
 use Rattle.lsm_disk.specs.State as disk
-use Rattle.lsm_disk.specs.State.{Seen, new_file}
+use Rattle.lsm_disk.specs.State.{Seen}
 use Rattle.lsm_disk.specs.Dest.{path_in}
 use Rattle.lsm_disk.specs.Kept.{IsKeptName}
-use Rattle.lsm_disk.specs.Building.{Part, IsKeptPart, names_of, sealed}
+use Rattle.lsm_disk.specs.Building.{Part, IsKeptPart, names_of}
 use Rattle.lsm_folder.specs.Names.{current_text}
 use Rattle.lsm_version.specs.declared.edits.Edit.{Edit}
 use Rattle.lsm_version.specs.Versions.{empty_version}
@@ -18,6 +18,7 @@ use Rattle.lsm_reading.specs.Parts.{manifest_text}
 use Rattle.lsm_model.specs.declared.states.State.{State}
 use Rattle.lsm_model.specs.declared.states.FolderRead.{FolderRead}
 use Rattle.lsm_model.specs.Plain.{empty_state}
+use Rattle.lsm_refine.specs.Disks.{folder_disk}
 use Rattle.lsm_refine.specs.Kept.{Kept, Shown}
 use Rattle.lsm_refine.specs.Sane.{IsAlone}
 use Rattle.lsm_refine.specs.Pins.{AreClearable}
@@ -68,9 +69,9 @@ pub record IsThere (d : disk.State) (dir : List ℕ) (name : FileName) : Type 0 
   pub id : ℕ
   pub named : IsKeptName d (path_in dir name) (Some (File_node id))
 
--- The disk has a new store's folder, with a manifest of this number: its files, those beside, and nothing else, now and after
--- each crash; all names are synced; the files that are appended to have no other name; and a checkpoint may be built. Where
--- the number is the folder's next one, an opening has drawn it, and each file from before has a lower one.
+-- The disk has a new store's folder, with a manifest of this number: its files, those beside, and no other of a store's names,
+-- now and after each crash; all names are synced; the files that are appended to have no other name; and a checkpoint may be
+-- built. Where the number is the folder's next one, an opening has drawn it, and each file from before has a lower one.
 pub record HasNewStore (d : disk.State) (dir : List ℕ) (m : ℕ) (beside : List FileName) : Type 0 where
   pub named : is_folder_name dir ≡ true
   pub least : 1 ≤ m
@@ -80,7 +81,8 @@ pub record HasNewStore (d : disk.State) (dir : List ℕ) (m : ℕ) (beside : Lis
   pub stands : IsKeptName d dir (Some Folder_node)
   pub each : All (IsKeptPart dir d) (new_files m)
   pub there : All (IsThere d dir) beside
-  pub only : (rest : List ℕ) → All (λ (name : FileName). rest ≢ spelled name) (new_names m beside) → IsKeptName d (dir ++ 47 ∷ rest) None
+  pub only : (name : FileName) → IsFileName name → All (λ (n : FileName). spelled name ≢ spelled n) (new_names m beside)
+      → IsKeptName d (path_in dir name) None
   pub alone : All (IsAlone d) (path_in dir (Manifest m) ∷ path_in dir (Log (m + 1)) ∷ [])
   pub clear : AreClearable d
 
@@ -104,9 +106,12 @@ new_kept m beside = record {
   pins = [];
   greatest_pin = 0;
   disables = 0;
+  flushing = record { taken = 0; table = None };
   unfinished = [];
   merging = None;
+  merge_level = 0;
   outputs = 0;
+  merged = 0;
   begun = None;
   hand = None;
 }
@@ -126,9 +131,4 @@ new_state seen dir m folders = record (empty_state dir) {
 
 -- a disk that has a new store's folder and nothing else
 abbrev pub new_disk : List ℕ → disk.State
-new_disk dir = record {
-  durable = finmap.from_entries ((dir, Folder_node) ∷ (path_in dir Current, File_node 0) ∷ (path_in dir (Manifest 1), File_node 1) ∷ (path_in dir (Log 2), File_node 2) ∷ []);
-  pending = [];
-  files = sealed (current_text 1) ∷ sealed (first_manifest 1) ∷ new_file ∷ [];
-  links = true;
-}
+new_disk dir = folder_disk dir (new_files 1)

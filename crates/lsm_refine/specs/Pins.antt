@@ -39,6 +39,7 @@ folder_of_pin manifest files = finmap.from_entries ((Current, A_file (current_te
 
 -- a pinned file is there, and begins with the pin's bytes
 pub record IsPinned (d : disk.State) (dir : List ℕ) (file : PinnedFile) : Type 0 where
+  pub fits : IsFileName file.name
   pub more : List ℕ
   pub there : bytes_at (tree_now d) (path_in dir file.name) ≡ Some (file.bytes ++ more)
 

@@ -12,7 +12,7 @@ use Rattle.lsm_rows.specs.declared.rows.Row.{Row}
 use Rattle.lsm_rows.specs.Replay.{sequence_after}
 use Rattle.lsm_disk.specs.Names.{Folder_node, File_node, all_named}
 use Rattle.lsm_disk.specs.State.{FileState, State, Change, Created, Named, file_at, names_now}
-use Rattle.lsm_disk.specs.Images.{Tree, bytes_at, tree_now}
+use Rattle.lsm_disk.specs.Images.{bytes_at, tree_now}
 use Rattle.lsm_disk.specs.Kept.{IsKeptName, IsKeptFile, OpSpares, SparesName, Spares}
 use Rattle.lsm_disk.specs.Building.{Part, IsBuilding, IsWriting, sealed}
 use Rattle.lsm_disk.specs.Dest.{Begun, path_in}
@@ -37,7 +37,8 @@ pub record IsWholeFile (d : State) (path bytes : List ℕ) : Type 0 where
 
 -- the file of this name has no other name, now and after each crash
 pub record IsAlone (d : State) (path : List ℕ) : Type 0 where
-  pub only : (id k : ℕ) (other : List ℕ) → file_at d path ≡ Some id → finmap.get (all_named (take k d.pending) d.durable) other ≡ Some (File_node id) → other ≡ path
+  pub only : (id k : ℕ) (other : List ℕ) → file_at d path ≡ Some id
+      → finmap.get (all_named (take k d.pending) d.durable) other ≡ Some (File_node id) → other ≡ path
 
 -- ---- the folder's parts
 
@@ -75,7 +76,8 @@ pub record HasTables (d : State) (dir : List ℕ) (kept : Kept) (rows : ℕ → 
 abbrev pub AreSynced : State → List ℕ → ℕ → List LogPart → Type 0
 AreSynced d dir first [] = Unit {0}
 AreSynced d dir first (log ∷ logs) =
-    IsWal d (path_in dir (Log log.number)) (in_sequence first log.batches) (length log.batches) × AreSynced d dir (sequence_after first log.batches) logs
+    IsWal d (path_in dir (Log log.number)) (in_sequence first log.batches) (length log.batches)
+    × AreSynced d dir (sequence_after first log.batches) logs
 
 -- a log of this number may be: from the log number on only live ones are there
 abbrev pub MayStand : State → List ℕ → Kept → ℕ → Type 0
@@ -114,7 +116,7 @@ IsHeld kept name = IsNeeded kept name ⊎ Contains (flat_map names_held kept.pin
 -- No operation on names that a crash may undo touches a needed or a pinned name. So a file's unlink comes after what made
 -- the file unneeded.
 pub record IsQuiet (d : State) (dir : List ℕ) (kept : Kept) : Type 0 where
-  pub spares : (name : FileName) → IsHeld kept name → All (OpSpares (path_in dir name)) d.pending
+  pub spares : (name : FileName) → IsFileName name → IsHeld kept name → All (OpSpares (path_in dir name)) d.pending
 
 -- the known names are those of the store's files in the folder, each of which is a file's
 pub record AreKnown (d : State) (dir : List ℕ) (kept : Kept) : Type 0 where
@@ -136,7 +138,8 @@ in_hand begun hand = []
 -- the paths that are still appended to: the manifest, the last log, unfinished tables, and what a restore has in hand
 abbrev pub appended_to : List ℕ → Kept → ℕ → List (List ℕ)
 appended_to dir kept log =
-    path_in dir (Manifest kept.manifest) ∷ path_in dir (Log log) ∷ map (λ (table : Unfinished). path_in dir (Table table.number)) kept.unfinished
+    path_in dir (Manifest kept.manifest) ∷ path_in dir (Log log)
+    ∷ map (λ (table : Unfinished). path_in dir (Table table.number)) kept.unfinished
     ++ in_hand kept.begun kept.hand
 
 -- the tables that are being written have the bytes that they were given, and no file that is still appended to has two names
@@ -179,12 +182,6 @@ pub record Sane (d : State) (dir : List ℕ) (kept : Kept) (parts : Parts) : Typ
   pub lawful : AreLawful parts.edits parts.rows
   pub written : AreWritten d dir kept parts.last.number
   pub restored : RestoreBuilds d dir kept.begun kept.hand
-
--- In this tree each live table's file is whole: its blocks, its index and its properties are those of a table of its rows. A
--- folder that stands may have others, over which a reading could be wrong; so an opening asks for this besides.
-pub record HasWholeTables (dir : List ℕ) (edits : List Edit) (rows : ℕ → List Row) (t : Tree) : Type 0 where
-  pub each : (number : ℕ) (placed : Placed) → finmap.get (tables_after edits) number ≡ Some placed
-      → (bytes : List ℕ) × (bytes_at t (path_in dir (Table number)) ≡ Some bytes) × IsTable bytes (rows number) number placed.info.session
 
 -- ---- what a change leaves
 

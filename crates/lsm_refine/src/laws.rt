@@ -26,7 +26,7 @@ ghost use Rattle.lsm_model.specs.Steps.{Step, Made, Makes};
 ghost use Rattle.lsm_model.specs.Crashes.{Crashed};
 ghost use Rattle.lsm_refine.specs.Kept.{Kept, Shown};
 ghost use Rattle.lsm_refine.specs.Parts.{LogPart, Parts, batches_in};
-ghost use Rattle.lsm_refine.specs.Sane.{IsAlone, IsCurrent, HasEdits, HasTables, AreSynced, IsQuiet, AreKnown, AreFiles, SparesNeeded, IsOlder, KeepsNames, HasWholeTables, Sane};
+ghost use Rattle.lsm_refine.specs.Sane.{IsAlone, IsCurrent, HasEdits, HasTables, AreSynced, IsQuiet, AreKnown, AreFiles, SparesNeeded, IsOlder, KeepsNames, Sane};
 ghost use Rattle.lsm_refine.specs.Pins.{PinFiles, ListedStand, AreClearable};
 ghost use Rattle.lsm_refine.specs.Tied.{Tied};
 ghost use Rattle.lsm_refine.specs.Fronts.{HasFirst, ShowsFirst, last_text, logs_with, batches_with};
@@ -47,15 +47,10 @@ pub fn logs_cut_anywhere_stand_for_a_front()
 /// last log, of which it has the synced batches at least.
 pub fn a_running_store_has_its_parts()
     ensures now { (d : disk.State) (dir : List ℕ) (kept : Kept) (parts : Parts) → Sane d dir kept parts
-        → HasParts (files_in dir (tree_now d)) parts.edits parts.rows (logs_with parts (last_text parts)) (batches_with parts parts.last.batches) }
+        → HasParts (files_in dir (tree_now d)) parts.edits parts.rows (logs_with parts (last_text parts))
+        (batches_with parts parts.last.batches) }
     ensures images { (d : disk.State) (dir : List ℕ) (kept : Kept) (parts : Parts) → Sane d dir kept parts
         → (t : Tree) → IsImage d t → HasFirst dir parts t }
-{}
-
-/// The live tables of a running store are whole files in each image, so that the next opening may ask for it.
-pub fn tables_stay_whole()
-    ensures { (d : disk.State) (dir : List ℕ) (kept : Kept) (parts : Parts) → Sane d dir kept parts → (t : Tree) → IsImage d t
-        → HasWholeTables dir parts.edits parts.rows t }
 {}
 
 /// A good store's folder stands now for the accepted batches, perhaps with the doubtful one, and in each image for a front of
@@ -67,7 +62,8 @@ pub fn a_good_stores_folder_stands()
 
 /// Each image of a good store's disk reads as a state that a crash leaves of the store's state.
 pub fn an_image_reads_as_a_crash_leaves_it()
-    ensures { (v : Shown) (s : State) → (good : Good v s) → (t : Tree) → IsImage (state_of good.story) t → (c : State) × Crashed s c × ReadsAs t c }
+    ensures { (v : Shown) (s : State) → (good : Good v s) → (t : Tree) → IsImage (state_of good.story) t
+        → (c : State) × Crashed s c × ReadsAs t c }
 {}
 
 /// What readings of a good store go through, running or halted, shows the accepted batches: the live tables are there with
@@ -80,8 +76,10 @@ pub fn a_good_store_shows_the_accepted_batches()
 /// Where nothing changes but the disk's counts, its clock and which views are open, a store stays good, for the state with
 /// these counts; so it does where a disk call that did nothing halts it.
 pub fn an_unchanged_store_stays_good()
-    ensures same { (v w : Shown) (s : State) (good : Good v s) → IsUnchanged good.story v w → w.halt ≡ v.halt → Good w (with_counts w.disk s) }
-    ensures stopped { (v w : Shown) (s : State) (first : Halt) (good : Good v s) → IsUnchanged good.story v w → v.halt ≡ None → w.halt ≡ Some first
+    ensures same { (v w : Shown) (s : State) (good : Good v s) → IsUnchanged good.story v w → w.halt ≡ v.halt
+        → Good w (with_counts w.disk s) }
+    ensures stopped { (v w : Shown) (s : State) (first : Halt) (good : Good v s) → IsUnchanged good.story v w → v.halt ≡ None
+        → w.halt ≡ Some first
         → Good w (stopped first (with_counts w.disk s)) }
 {}
 
@@ -90,29 +88,37 @@ pub fn an_unchanged_store_stays_good()
 /// another; and the making and the unlinking of a file of that folder.
 pub fn changes_inside_leave_other_folders()
     ensures stay { (d later : disk.State) (s : State) → ChangesInside s.own d later → FoldersRead d s → FoldersRead later s }
-    ensures change { (own : List ℕ) (d : disk.State) (c : Change) → SparesOutside own c → AppendsInside d own c → ChangesInside own d (after d c) }
-    ensures both { (own : List ℕ) (d mid later : disk.State) → ChangesInside own d mid → ChangesInside own mid later → ChangesInside own d later }
-    ensures created { (own : List ℕ) (file : FileName) → is_folder_name own ≡ true → IsFileName file → SparesOutside own (Created (path_in own file)) }
-    ensures unlinked { (own : List ℕ) (file : FileName) → is_folder_name own ≡ true → IsFileName file → SparesOutside own (Named (Gone (path_in own file))) }
+    ensures change { (own : List ℕ) (d : disk.State) (c : Change) → SparesOutside own c → AppendsInside d own c
+        → ChangesInside own d (after d c) }
+    ensures both { (own : List ℕ) (d mid later : disk.State) → ChangesInside own d mid → ChangesInside own mid later
+        → ChangesInside own d later }
+    ensures created { (own : List ℕ) (file : FileName) → is_folder_name own ≡ true → IsFileName file
+        → SparesOutside own (Created (path_in own file)) }
+    ensures unlinked { (own : List ℕ) (file : FileName) → is_folder_name own ≡ true → IsFileName file
+        → SparesOutside own (Named (Gone (path_in own file))) }
 {}
 
 /// A change that spares the needed files, the last log left out, keeps what a running store has of its CURRENT, its manifest,
 /// its tables and its older logs.
 pub fn needed_files_stay()
-    ensures current { (d : disk.State) (dir : List ℕ) (kept : Kept) (last : ℕ) (c : Change) → SparesNeeded d dir kept last c → IsCurrent d dir kept → IsCurrent (after d c) dir kept }
+    ensures current { (d : disk.State) (dir : List ℕ) (kept : Kept) (last : ℕ) (c : Change) → SparesNeeded d dir kept last c
+        → IsCurrent d dir kept → IsCurrent (after d c) dir kept }
     ensures edits { (d : disk.State) (dir : List ℕ) (kept : Kept) (last : ℕ) (c : Change) → SparesNeeded d dir kept last c
         → (edits : List Edit) → IsCurrent d dir kept → HasEdits d dir kept edits → HasEdits (after d c) dir kept edits }
     ensures tables { (d : disk.State) (dir : List ℕ) (kept : Kept) (last : ℕ) (c : Change) → SparesNeeded d dir kept last c
         → (rows : ℕ → List Row) → HasTables d dir kept rows → HasTables (after d c) dir kept rows }
     ensures logs { (d : disk.State) (dir : List ℕ) (kept : Kept) (last : ℕ) (c : Change) → SparesNeeded d dir kept last c
-        → (first : ℕ) (logs : List LogPart) → All (IsOlder kept last) logs → AreSynced d dir first logs → AreSynced (after d c) dir first logs }
+        → (first : ℕ) (logs : List LogPart) → All (IsOlder kept last) logs → AreSynced d dir first logs
+        → AreSynced (after d c) dir first logs }
 {}
 
 /// An append to the last log, where this has no other name, spares the needed files. So do its sync and a sync of names.
 pub fn the_last_log_is_apart()
-    ensures append { (d : disk.State) (dir : List ℕ) (kept : Kept) (last id : ℕ) → IsFileName (Log last) → file_at d (path_in dir (Log last)) ≡ Some id
+    ensures append { (d : disk.State) (dir : List ℕ) (kept : Kept) (last id : ℕ) → IsFileName (Log last)
+        → file_at d (path_in dir (Log last)) ≡ Some id
         → IsAlone d (path_in dir (Log last)) → (more : List ℕ) → SparesNeeded d dir kept last (Appended id more) }
-    ensures sync { (d : disk.State) (dir : List ℕ) (kept : Kept) (last id : ℕ) → IsFileName (Log last) → file_at d (path_in dir (Log last)) ≡ Some id
+    ensures sync { (d : disk.State) (dir : List ℕ) (kept : Kept) (last id : ℕ) → IsFileName (Log last)
+        → file_at d (path_in dir (Log last)) ≡ Some id
         → IsAlone d (path_in dir (Log last)) → SparesNeeded d dir kept last (Synced id) }
     ensures names { (d : disk.State) (dir : List ℕ) (kept : Kept) (last : ℕ) → SparesNeeded d dir kept last Names_synced }
 {}
@@ -120,8 +126,10 @@ pub fn the_last_log_is_apart()
 /// A change that moves no name keeps what is known of names: which operations a crash may undo, which of the store's files are
 /// there, that no folder stands under a file's name, that a checkpoint may be built, and that a file has no other name.
 pub fn names_stay_known()
-    ensures quiet { (d : disk.State) (dir : List ℕ) (kept : Kept) (c : Change) → KeepsNames c → IsQuiet d dir kept → IsQuiet (after d c) dir kept }
-    ensures known { (d : disk.State) (dir : List ℕ) (kept : Kept) (c : Change) → KeepsNames c → AreKnown d dir kept → AreKnown (after d c) dir kept }
+    ensures quiet { (d : disk.State) (dir : List ℕ) (kept : Kept) (c : Change) → KeepsNames c → IsQuiet d dir kept
+        → IsQuiet (after d c) dir kept }
+    ensures known { (d : disk.State) (dir : List ℕ) (kept : Kept) (c : Change) → KeepsNames c → AreKnown d dir kept
+        → AreKnown (after d c) dir kept }
     ensures files { (d : disk.State) (dir : List ℕ) (c : Change) → KeepsNames c → AreFiles d dir → AreFiles (after d c) dir }
     ensures clear { (d : disk.State) (c : Change) → KeepsNames c → AreClearable d → AreClearable (after d c) }
     ensures alone { (d : disk.State) (path : List ℕ) (c : Change) → KeepsNames c → IsAlone d path → IsAlone (after d c) path }
@@ -132,7 +140,8 @@ pub fn names_stay_known()
 pub fn made_and_removed_files_are_no_folders()
     ensures made { (d : disk.State) (dir path : List ℕ) → AreFiles d dir → AreFiles (after d (Created path)) dir }
     ensures removed { (d : disk.State) (dir path : List ℕ) → AreFiles d dir → AreFiles (after d (Named (Gone path))) dir }
-    ensures clear_made { (d : disk.State) (own : List ℕ) (file : FileName) → AreClearable d → AreClearable (after d (Created (path_in own file))) }
+    ensures clear_made { (d : disk.State) (own : List ℕ) (file : FileName) → AreClearable d
+        → AreClearable (after d (Created (path_in own file))) }
     ensures clear_removed { (d : disk.State) (path : List ℕ) → AreClearable d → AreClearable (after d (Named (Gone path))) }
 {}
 
@@ -146,7 +155,8 @@ pub fn a_cuts_files_stand()
 /// Pinned files are there, and begin with their pin's bytes, behind each change that spares their names, also where it adds to
 /// one of them.
 pub fn pinned_files_stay()
-    ensures { (d : disk.State) (dir : List ℕ) (c : Change) (files : List PinnedFile) → All (λ (file : PinnedFile). SparesName (path_in dir file.name) c) files
+    ensures { (d : disk.State) (dir : List ℕ) (c : Change) (files : List PinnedFile)
+        → All (λ (file : PinnedFile). SparesName (path_in dir file.name) c) files
         → PinFiles d dir files → PinFiles (after d c) dir files }
 {}
 
@@ -169,7 +179,8 @@ pub fn a_new_store_is_good()
         → seen.told ≡ Some story → HasNewStore (state_of story) dir m beside → FoldersRead (state_of story) (new_state seen dir m folders)
         → Good (new_store seen dir m beside) (new_state seen dir m folders) }
     ensures listed { (seen : Seen) (dir : List ℕ) (m : ℕ) (beside : List FileName) (story : Story) → seen.told ≡ Some story
-        → HasNewStore (state_of story) dir m beside → (folders : List FolderRead) × Good (new_store seen dir m beside) (new_state seen dir m folders) }
+        → HasNewStore (state_of story) dir m beside → (folders : List FolderRead)
+        × Good (new_store seen dir m beside) (new_state seen dir m folders) }
     ensures some { (dir : List ℕ) → is_folder_name dir ≡ true → HasNewStore (new_disk dir) dir 1 [] }
 {}
 

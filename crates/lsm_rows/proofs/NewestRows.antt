@@ -15,7 +15,7 @@ use Rattle.lsm_rows.specs.Replay.{Contents, key_cmp}
 use Rattle.lsm_rows.specs.Contents.{newer, newest, value_of, with_entry, entries_among, contents_of, KeepsKey, IsNewest}
 
 -- keys that compare as equal are equal
-equal_of : (r : Ordering) → is_eq r ≡ true → r ≡ Equal
+pub equal_of : (r : Ordering) → is_eq r ≡ true → r ≡ Equal
 equal_of Less e = cc
 equal_of Equal e = refl
 equal_of Greater e = cc
@@ -92,7 +92,7 @@ chain a b c x y = grind (arith, nat_tests)
 chain_not : (a b c : ℕ) → nat_lt a b ≡ false → nat_lt b c ≡ false → nat_lt a c ≡ false
 chain_not a b c x y = grind (arith, nat_tests)
 
-not_below : (a b : ℕ) → a < b → nat_lt b a ≡ false
+pub not_below : (a b : ℕ) → a < b → nat_lt b a ≡ false
 not_below a b h = grind (arith, nat_tests)
 
 newer_three : (x q p : Row) (a b c : Bool) → nat_lt q.sequence p.sequence ≡ a → nat_lt x.sequence q.sequence ≡ b → nat_lt x.sequence p.sequence ≡ c
@@ -141,7 +141,7 @@ contents_kept others inputs outputs keeps =
     get_contents (others ++ outputs) k ∙ kept_at others inputs outputs k (keeps k) ∙ sym (get_contents (others ++ inputs) k))
 
 -- a key compares as equal with itself
-tied : (k q : List ℕ) → q ≡ k → eq_by_cmp key_cmp k q ≡ true
+pub tied : (k q : List ℕ) → q ≡ k → eq_by_cmp key_cmp k q ≡ true
 tied k q same = ap (λ (l : List ℕ). is_eq (key_cmp k l)) same ∙ ap is_eq (tied_itself nat_list_cmp_total k)
 
 -- a key without a newest row has no row
@@ -157,11 +157,11 @@ no_row k (r ∷ rows) none = by_same (eq_by_cmp key_cmp k r.key) refl none (λ r
 below_from : (a b : ℕ) → nat_lt a b ≡ true → a ≤ b
 below_from a b e = grind (arith, nat_tests)
 
-above_from : (a b : ℕ) → nat_lt a b ≡ false → b ≤ a
+pub above_from : (a b : ℕ) → nat_lt a b ≡ false → b ≤ a
 above_from a b e = grind (arith, nat_tests)
 
 -- a key's newest row is one of its rows, and none of them has a greater sequence
-AtMost : List ℕ → ℕ → Row → Type 0
+pub AtMost : List ℕ → ℕ → Row → Type 0
 AtMost k sequence other = other.key ≡ k → other.sequence ≤ sequence
 
 first_is : (k : List ℕ) (r : Row) (rows : List Row) → eq_by_cmp key_cmp k r.key ≡ true → All (AtMost k r.sequence) rows → IsNewest k (r ∷ rows) r

@@ -74,7 +74,7 @@ module _ {Z : Type 0} where
 
 -- ---- the entries in their order
 
-both : (a b : Bool) → T a → T b → T (a && b)
+pub both : (a b : Bool) → T a → T b → T (a && b)
 both true b p q = q
 both false b p q = p
 

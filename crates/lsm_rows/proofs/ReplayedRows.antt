@@ -17,7 +17,7 @@ use Rattle.lsm_rows.specs.Contents.{newer, newest, value_of, contents_of, AllBef
 use Rattle.std.proofs.Common.{suc}
 use Rattle.lsm_rows.proofs.NewestRows.{get_contents, same_contents}
 
-lesser : (m n : ℕ) → m < n → nat_lt m n ≡ true
+pub lesser : (m n : ℕ) → m < n → nat_lt m n ≡ true
 lesser m n h = grind (arith, nat_tests)
 
 newest_last : (rows : List Row) (r : Row) (k : List ℕ) → AllBefore r.sequence rows → newest k (rows ++ r ∷ []) ≡ cond (eq_by_cmp key_cmp k r.key) (Some r) (newest k rows)

@@ -1,8 +1,8 @@
 -- A builder's data blocks are those of its rows.
-use Rattle.std.proofs.Common.{◌≡◌, ℕ, ◌+◌, ◌^◌, ◌<◌, ◌≤◌, ⊎_elim, ◌==◌, Bool, true, false, List, [], ◌∷◌, ◌++◌, length, refl, sym, ap, ◌∙◌, subst, arith, append_assoc, length-append}
-use Rattle.std.specs.Prelude.{map, ◌&&◌}
-use Rattle.std.specs.List.{flat_map, list_all}
-use Rattle.lsm_names.specs.Sessions.{is_session, is_session_byte}
+use Rattle.std.proofs.Common.{◌≡◌, ℕ, ◌+◌, ◌^◌, ◌<◌, ◌≤◌, ⊎_elim, true, List, [], ◌∷◌, ◌++◌, length, refl, sym, ap, ◌∙◌, subst, arith, append_assoc, length-append}
+use Rattle.std.specs.Prelude.{map}
+use Rattle.std.specs.List.{flat_map}
+use Rattle.lsm_names.specs.Sessions.{is_session}
 use Rattle.lsm_rows.specs.declared.internal_keys.Kind.{Kind}
 use Rattle.lsm_rows.specs.InternalKeys.{IsInternalKey, internal_key, kind_byte}
 use Rattle.std.specs.Int.{w32, w64, to_le_bytes}

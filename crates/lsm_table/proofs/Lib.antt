@@ -3,6 +3,7 @@ pub mod BehindRows
 pub mod BuiltRows
 pub mod Cutting
 pub mod DataBlocks
+pub mod Footers
 pub mod Indexes
 pub mod NumberedRows
 pub mod OneTable
@@ -11,6 +12,7 @@ pub mod OrderedBlocks
 pub mod RowRuns
 pub mod Searches
 pub mod StoredReads
+pub mod Walks
 pub mod WholeRows
 pub mod WholeSearches
 pub mod WholeTables

@@ -15,7 +15,7 @@ use Rattle.lsm_table.specs.declared.parts.Places.{Places}
 use Rattle.lsm_table.specs.declared.parts.Properties.{Properties}
 use Rattle.lsm_table.specs.Opening.{part_at, footer_in, footer_of, contents_at, told_by, properties_at, TellsBlock, IsIndex, IsFaultOf, IsIndexFault, IsRefused, IsOutside, Opens}
 use Rattle.lsm_table.specs.Tables.{Shows, AreParts}
-use Rattle.lsm_frame.proofs.Going.{tells_still}
+use Rattle.lsm_frame.proofs.Agreeing.{tells_before}
 
 -- an exit that hands a fault on
 pub by_fault : {T : Type 0} (P : TableFault → Type 0) (r : Result T TableFault) (e : TableFault) → IsErrAnd r (λ x. x ≡ e) → P e → IfErr r P
@@ -108,10 +108,6 @@ told_ok place text contents is = ap (λ (r : Result (List ℕ) TableFault). told
 pub told_fault : (place : ℕ) (text : List ℕ) (e : TableFault) → IsFaultOf (contents_at place 36 text) e → IsFaultOf (properties_at place text) e
 told_fault place text e fault = carried (contents_at place 36 text) (properties_at place text) e (λ f is. ap (λ (r : Result (List ℕ) TableFault). told_by place r) is) fault
 
--- a view that stays tells what it told
-pub tells_back : (a b : Viewed) (text : List ℕ) → Stays a b → Tells b text → Tells a text
-tells_back a b text stays told = record { bytes = sym stays.bytes ∙ told.bytes; whole = told.whole ∙ stays.len }
-
 pub index_refused : (text : List ℕ) (places : Places) (e : TableFault) → footer_of text ≡ Ok places → IsIndexFault text places e → IsRefused text e
 index_refused text places e footer fault = inr (record { places = places; footer = footer; fault_is = inl fault })
 
@@ -120,7 +116,7 @@ properties_refused text places index e footer is fault = inr (record { places = 
 
 pub parts_after : (a b : Viewed) (properties : Properties) (index : List Entry) → Stays a b → ((text : List ℕ) → Tells a text → Opens text properties index) → All TellsBlock index → AreParts b properties index
 unfolding Shows
-parts_after a b properties index stays opens places = record { shows = λ text told. opens text (tells_back a b text stays told); places = places }
+parts_after a b properties index stays opens places = record { shows = λ text told. opens text (tells_before a b text stays told); places = places }
 
 -- an exit with a fault of the bytes has no cause in the view
 pub outside_error : {T : Type 0} (X : Type 0) (r : Result T TableFault) (e : TableFault) → IsErrAnd r (λ x. x ≡ e) → e ≢ ReadFault → IfErr r (λ x. x ≡ ReadFault → X)

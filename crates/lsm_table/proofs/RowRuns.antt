@@ -18,6 +18,7 @@ use Rattle.lsm_block.specs.TableText.{kind_of, row_entry}
 use Rattle.lsm_table.specs.declared.faults.TableFault.{TableFault}
 use Rattle.lsm_table.specs.declared.faults.TableFault.TheVariants.{NoMemory}
 use Rattle.lsm_table.specs.Opening.{TellsBlock, IsOutside}
+use Rattle.lsm_table.specs.DataBlocks.{StoresBlock, StoresFault}
 use Rattle.lsm_table.specs.Rows.{entries_after, row_at, IsOfBlock, AreOfBlocks}
 use Rattle.lsm_table.specs.Searching.{IsValue}
 use Rattle.lsm_table.proofs.AfterKeys.{after_append, after_nil, none_after}
@@ -165,17 +166,24 @@ run_more v w u index after count i left e rows rows_now block entries taken run 
         let more : List Entry = entries_after after block in
         omega (arith, run.few, left_is, ap (length {A = Row}) got, length-append rows (map row_at (take left more)), length-map (take left more) row_at, length-take left more)
 
--- no block is left
+-- what is read where an entry of a block tells
+pub block_read : (w : Viewed) (e : Entry) (block : List Entry) → ((text : List ℕ) → Tells w text → StoresBlock text e block) → (text : List ℕ) (b : List Entry) → Tells w text → IsOfBlock text e b → block ≡ b
+block_read w e block stores text b told of = let s = stores text told in of.read s.place s.len block s.tells s.stored
+
+pub fault_read : (w : Viewed) (e : Entry) (fault : TableFault) → ((text : List ℕ) → Tells w text → StoresFault text e fault) → (text : List ℕ) (b : List Entry) → Tells w text → IsOfBlock text e b → IsOutside fault
+fault_read w e fault stores text b told of = let s = stores text told in of.outside s.place s.len fault s.tells s.fault_is
+
+-- the keys of entries
+pub keys_each : (es : List Entry) → All IsKey (keys_of es) → All (λ e. IsKey e.key) es
+keys_each [] keys = All-nil (λ e. IsKey e.key)
+keys_each (e ∷ es) keys = All-cons (λ e. IsKey e.key) e es (All-head IsKey e.key (keys_of es) keys) (keys_each es (All-tail IsKey e.key (keys_of es) keys))
+
 -- the keys of entries that were taken
 pub keys_taken : (after : Option (List ℕ)) (n : ℕ) (es result : List Entry) → All IsKey (keys_of es) → result ≡ take n (entries_after after es) → All (λ e. IsKey e.key) result
 unfolding entries_after
 keys_taken after n es result keys is =
     subst (All (λ e. IsKey e.key)) (sym is)
-    (All-take (λ e. IsKey e.key) n (filter (λ e. comes_after after e.key) es) (All-filter (λ e. comes_after after e.key) (λ e. IsKey e.key) es (of_keys es keys)))
-  where
-    of_keys : (es : List Entry) → All IsKey (keys_of es) → All (λ e. IsKey e.key) es
-    of_keys [] keys = All-nil (λ e. IsKey e.key)
-    of_keys (e ∷ es) keys = All-cons (λ e. IsKey e.key) e es (All-head IsKey e.key (keys_of es) keys) (of_keys es (All-tail IsKey e.key (keys_of es) keys))
+    (All-take (λ e. IsKey e.key) n (filter (λ e. comes_after after e.key) es) (All-filter (λ e. comes_after after e.key) (λ e. IsKey e.key) es (keys_each es keys)))
 
 -- a reading that is refused
 pub run_refused : (v w : Viewed) (index : List Entry) (after : Option (List ℕ)) (count i : ℕ) (e : Entry) (rows : List Row) (fault : TableFault) → IsRun v w index after count i rows → i < length index → e ≡ get_or index i e
@@ -188,6 +196,7 @@ pub memory_outside : IsOutside NoMemory
 unfolding IsOutside
 memory_outside = tt
 
+-- no block is left
 pub run_all : (v w : Viewed) (index : List Entry) (after : Option (List ℕ)) (count i : ℕ) (rows : List Row) → IsRun v w index after count i rows → length index ≤ i
     → (text : List ℕ) (blocks : List (List Entry)) → Tells v text → AreOfBlocks text index blocks → rows ≡ map row_at (take count (entries_after after (joined blocks)))
 run_all v w index after count i rows run all text blocks told of =

@@ -3,14 +3,14 @@ use Rattle.std.proofs.Common.{◌≡◌, ℕ, ◌+◌, ◌*◌, ◌⊎◌, inl, 
 use Rattle.std.specs.Prelude.{Option, Some, None, not, All, nat_eq}
 use Rattle.std.specs.List.{find}
 use Rattle.std.specs.List.Sorted.{IsStrictlySortedBy}
-use Rattle.std.specs.Ordering.{is_lt, is_eq, nat_cmp, ordering_then, ordering_reverse}
+use Rattle.std.specs.Ordering.{is_lt, is_eq, ordering_reverse}
 use Rattle.std.specs.declared.cmp.Ordering.{Ordering}
 use Rattle.std.specs.declared.cmp.Ordering.TheVariants.{Less, Equal, Greater}
 use Rattle.std.specs.Cmp.Lexicographic.{pointwise, texts_ties, same_text, nat_list_cmp_total}
 use Rattle.std.proofs.lemmas.List.Elements.{All-head, All-tail}
 use Rattle.lsm_rows.specs.declared.internal_keys.Kind.{Kind}
 use Rattle.lsm_rows.specs.declared.internal_keys.Kind.TheVariants.{Delete, Put}
-use Rattle.lsm_rows.specs.InternalKeys.{IsInternalKey, internal_cmp, internal_key, user_key, trailer, kind_byte}
+use Rattle.lsm_rows.specs.InternalKeys.{IsInternalKey, internal_cmp, internal_key, user_key, kind_byte}
 use Rattle.lsm_rows.specs.Replay.{key_cmp}
 use Rattle.lsm_rows.proofs.InternalOrder.{user_key_of}
 use Rattle.lsm_block.specs.declared.entries.Entry.{Entry}
@@ -19,15 +19,7 @@ use Rattle.lsm_block.specs.Seek.{first_of_user}
 use Rattle.lsm_block.specs.TableText.{kind_of}
 use Rattle.lsm_block.proofs.Keys.{sorted-above, sorted-rest}
 use Rattle.lsm_table.specs.Searching.{entry_of, IsValue, IsRowOf}
-
-users : (o p : Ordering) → ordering_then o p ≡ Less → (o ≡ Less) ⊎ (o ≡ Equal)
-users Less p is = inl refl
-users Equal p is = inr refl
-users Greater p is = cc
-
-internal_users : (a b : List ℕ) → internal_cmp a b ≡ Less → (key_cmp (user_key a) (user_key b) ≡ Less) ⊎ (key_cmp (user_key a) (user_key b) ≡ Equal)
-unfolding internal_cmp
-internal_users a b less = users (key_cmp (user_key a) (user_key b)) (nat_cmp (trailer b) (trailer a)) less
+use Rattle.lsm_block.proofs.Sought.{internal_users}
 
 pub same_as : (x y key : List ℕ) → key_cmp y key ≡ Equal → key_cmp x key ≡ key_cmp x y
 same_as x y key same =

@@ -9,9 +9,7 @@ use Rattle.lsm_bytes.specs.Numbers.{number_at}
 use Rattle.lsm_block.specs.TableText.{stored, magic, places_text, footer_text}
 use Rattle.lsm_table.specs.declared.parts.Places.{Places}
 use Rattle.lsm_table.specs.Opening.{contents_in, footer_in, places_in, lie_in_turn}
-
-masked_small : (c : ℕ) → masked c < 2 ^ 32
-masked_small c = omega arith
+use Rattle.lsm_frame.proofs.Written.{masked_small}
 
 pub eight : (n : ℕ) (tail : List ℕ) → n < 2 ^ 64 → number_at 8 (to_le_bytes w64 n ++ tail) 0 ≡ n
 eight n tail below = omega arith

@@ -65,7 +65,7 @@ pub of_table : (text : List ℕ) (rows : List Row) (number : ℕ) (session : Lis
 of_table text rows number session is =
     subst (λ (n : ℕ). AreOfBlocks text (index_from n (data_blocks rows)) (data_blocks rows)) (ap (length {A = ℕ}) blocks_text-nil) (of_from text rows number session is [] (data_blocks rows) refl)
 
-of_opened : (text : List ℕ) (rows : List Row) (number : ℕ) (session : List ℕ) (properties : Properties) (index : List Entry) → IsTable text rows number session → Opens text properties index → AreOfBlocks text index (data_blocks rows)
+pub of_opened : (text : List ℕ) (rows : List Row) (number : ℕ) (session : List ℕ) (properties : Properties) (index : List Entry) → IsTable text rows number session → Opens text properties index → AreOfBlocks text index (data_blocks rows)
 of_opened text rows number session properties index is opens =
     let same = opens_once text properties (record { number = number; session = session; rows = length rows }) index (index_from 0 (data_blocks rows)) opens (table_opens text rows number session is) in
     subst (λ (es : List Entry). AreOfBlocks text es (data_blocks rows)) (sym same.1) (of_table text rows number session is)

@@ -9,8 +9,6 @@ use Rattle.std.specs.declared.cmp.Ordering.TheVariants.{Less, Equal, Greater}
 use Rattle.std.specs.Cmp.Lexicographic.{pointwise, texts_ties, nat_list_cmp_total}
 use Rattle.std.proofs.lemmas.List.Elements.{All-nil, All-cons, All-head, All-tail, All-contains, Contains-append_right, Contains-get_or}
 use Rattle.lsm_rows.specs.declared.rows.Row.{Row}
-use Rattle.lsm_rows.specs.declared.internal_keys.Kind.{Kind}
-use Rattle.lsm_rows.specs.declared.internal_keys.Kind.TheVariants.{Delete, Put}
 use Rattle.lsm_rows.specs.InternalKeys.{internal_key, user_key, trailer, kind_byte}
 use Rattle.lsm_rows.specs.Replay.{key_cmp}
 use Rattle.lsm_rows.specs.Contents.{newer, newest}

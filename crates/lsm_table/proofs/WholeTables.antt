@@ -183,7 +183,7 @@ refused_for text rows number session fault is refused =
     never_refused text (record { number = number; session = session; rows = length rows }) (index_from 0 (data_blocks rows)) fault (table_opens text rows number session is) refused
 
 -- a text is refused in one way
-fault_is : {A : Type 0} (read : Result A TableFault) (fault : TableFault) → IsFaultOf read fault → (IsOutside fault → ⊥) → read ≡ Err fault
+pub fault_is : {A : Type 0} (read : Result A TableFault) (fault : TableFault) → IsFaultOf read fault → (IsOutside fault → ⊥) → read ≡ Err fault
 unfolding IsFaultOf IsOutside
 fault_is read ReadFault is inside = absurd (inside tt)
 fault_is read (Damaged place kept found) is inside = is
@@ -342,6 +342,7 @@ stands_stored text rows number session is place b at = record {
   len = length (block_text b);
   told = stands_told text rows number session place b is at;
   stored = record {
+    there = omega (arith, stands_len (data_blocks rows) place b at, (parts_are text rows number session is).len);
     contents = block_text b;
     stored = stands_contents text rows number session place b is at;
     is = record { is = refl; block = stands_block text rows number session place b is at };
@@ -369,9 +370,9 @@ told_outside : (text : List ℕ) (rows : List Row) (number : ℕ) (session : Lis
 told_outside text rows number session place len fault is told (inl (at, short)) =
     let parts = parts_are text rows number session is in
     absurd (omega (arith, short, told.len_is, stands_len (data_blocks rows) place told.block told.stands, parts.len))
-told_outside text rows number session place len fault is told (inr (inl wrong)) =
+told_outside text rows number session place len fault is told (inr (there, inl wrong)) =
     no_fault (contents_at place len text) (block_text told.block) fault (told_contents text rows number session place len is told) wrong
-told_outside text rows number session place len fault is told (inr (inr (at, none))) =
+told_outside text rows number session place len fault is told (inr (there, inr (at, none))) =
     let same : block_text told.block ≡ none.contents =
     ok_once (contents_at place len text) (block_text told.block) none.contents (told_contents text rows number session place len is told) none.stored in
     absurd (none.none told.block (record { is = sym same; block = stands_block text rows number session place told.block is told.stands }))

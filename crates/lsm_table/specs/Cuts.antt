@@ -33,7 +33,8 @@ end_block c = record {
 -- an entry comes into the open block, which is ended with it where its contents then have 4,096 bytes or more
 unfoldable pub added : Cut → Entry → Cut
 added c e =
-    if nat_lt (length (block_text (c.begun ++ e ∷ []))) 4096 then record c { begun = c.begun ++ e ∷ [] } else end_block (record c { begun = c.begun ++ e ∷ [] })
+    if nat_lt (length (block_text (c.begun ++ e ∷ []))) 4096 then record c { begun = c.begun ++ e ∷ [] }
+    else end_block (record c { begun = c.begun ++ e ∷ [] })
 
 -- where no entry follows, the open block is ended if it has entries
 unfoldable pub ended : Cut → Cut

@@ -1,5 +1,5 @@
 -- What stands where an index tells a data block.
-use Rattle.std.specs.Prelude.{◌≡◌, ℕ, ◌+◌, ◌<◌, ◌⊎◌, List, length, Option, Some, None, Ok}
+use Rattle.std.specs.Prelude.{◌≡◌, ℕ, ◌+◌, ◌<◌, ◌≤◌, ◌⊎◌, List, length, slice_get, Option, Some, None, Ok}
 use Rattle.std.specs.List.{Contains}
 use Rattle.lsm_rows.specs.declared.rows.Row.{Row}
 use Rattle.lsm_block.specs.declared.entries.Entry.{Entry}
@@ -17,8 +17,9 @@ pub record IsTold (index : List Entry) (place len : ℕ) : Type 0 where
   pub among : Contains index entry
   pub tells : TellsPlace entry.value place len
 
--- a text has the block with these entries stored at a place, with contents of so many bytes
+-- a text has the block with these entries stored at a place, with contents of so many bytes, and doesn't end before it does
 pub record IsStoredBlock (text : List ℕ) (place len : ℕ) (block : List Entry) : Type 0 where
+  pub there : place + len + 5 ≤ length text
   pub contents : List ℕ
   pub stored : contents_at place len text ≡ Ok contents
   pub is : IsBlockText contents block
@@ -29,10 +30,39 @@ pub record IsNoBlock (text : List ℕ) (place len : ℕ) : Type 0 where
   pub stored : contents_at place len text ≡ Ok contents
   pub none : (es : List Entry) → ¬ IsBlockText contents es
 
--- why a text has no block at a place: it ends before the block does; or how it is stored; or its contents
+-- why a text has no block at a place: it ends before the block does; or, where it doesn't, how the block is stored, or its
+-- contents
 abbrev pub IsStoredFault : List ℕ → ℕ → ℕ → TableFault → Type 0
 IsStoredFault text place len fault =
-    ((fault ≡ Malformed place) × (length text < place + len + 5)) ⊎ (IsFaultOf (contents_at place len text) fault ⊎ ((fault ≡ Malformed place) × IsNoBlock text place len))
+    ((fault ≡ Malformed place) × (length text < place + len + 5))
+    ⊎ ((place + len + 5 ≤ length text)
+    × (IsFaultOf (contents_at place len text) fault ⊎ ((fault ≡ Malformed place) × IsNoBlock text place len)))
+
+-- a text has this block where an entry of its index tells one
+pub record StoresBlock (text : List ℕ) (e : Entry) (block : List Entry) : Type 0 where
+  pub place : ℕ
+  pub len : ℕ
+  pub tells : TellsPlace e.value place len
+  pub stored : IsStoredBlock text place len block
+
+-- the block that an entry of its index tells is stored wrongly
+pub record StoresFault (text : List ℕ) (e : Entry) (fault : TableFault) : Type 0 where
+  pub place : ℕ
+  pub len : ℕ
+  pub tells : TellsPlace e.value place len
+  pub fault_is : IsStoredFault text place len fault
+
+-- the data block of this number, counted from 0 in the order of the index
+pub record IsNthBlock (text : List ℕ) (index : List Entry) (nth : ℕ) (block : List Entry) : Type 0 where
+  pub entry : Entry
+  pub at : slice_get index nth ≡ Some entry
+  pub stores : StoresBlock text entry block
+
+-- the data block of this number is stored wrongly
+pub record IsNthFault (text : List ℕ) (index : List Entry) (nth : ℕ) (fault : TableFault) : Type 0 where
+  pub entry : Entry
+  pub at : slice_get index nth ≡ Some entry
+  pub stores : StoresFault text entry fault
 
 -- a text has this data block at a place that its index tells
 pub record IsDataBlock (text : List ℕ) (index : List Entry) (place : ℕ) (block : List Entry) : Type 0 where

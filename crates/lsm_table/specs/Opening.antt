@@ -113,7 +113,8 @@ IsFaultOf read NoMemory = Unit {0}
 
 -- what is wrong with an index: how it is stored, or its contents
 abbrev pub IsIndexFault : List ℕ → Places → TableFault → Type 0
-IsIndexFault text places fault = IsFaultOf (contents_at places.index places.len text) fault ⊎ ((fault ≡ Malformed places.index) × IsNoIndex text places)
+IsIndexFault text places fault = IsFaultOf (contents_at places.index places.len text) fault
+    ⊎ ((fault ≡ Malformed places.index) × IsNoIndex text places)
 
 -- the properties are wrong, where the index is right
 pub record IsPropertiesFault (text : List ℕ) (places : Places) (fault : TableFault) : Type 0 where

@@ -81,7 +81,8 @@ impl TableBuilder {
         requires sequence { row.now.sequence < 2 ^ 56 }
         requires behind { IsBehind self.old row.now }
         requires room { size_of self.old.blocks + row_len row.now + 108 < 2 ^ 29 }
-        ensures ok { (rows : List Row) (handed : List ℕ) → IsBuilt self.old rows handed → OnOk result (IsBuilt self.new (rows ++ row.now ∷ []) handed) }
+        ensures ok { (rows : List Row) (handed : List ℕ) → IsBuilt self.old rows handed
+            → OnOk result (IsBuilt self.new (rows ++ row.now ∷ []) handed) }
         ensures err { (rows : List Row) (handed : List ℕ) → IsBuilt self.old rows handed → OnErr result (IsBuilt self.new rows handed) }
         ensures count { OnOk result (self.new.count ≡ self.old.count + 1) }
         ensures number { self.new.number ≡ self.old.number }

@@ -14,7 +14,8 @@ ghost use Rattle.lsm_table.specs.WholeTables.{IsTable, StandsAt};
 
 /// A row whose user key is past those of the rows so far may come into their table.
 pub fn a_row_with_a_later_key_may_be_added()
-    ensures { (v : Built) (rows : List Row) (row : Row) (handed : List ℕ) → IsBuilt v rows handed → AreTableRows (rows ++ row ∷ []) → IsBehind v row }
+    ensures { (v : Built) (rows : List Row) (row : Row) (handed : List ℕ) → IsBuilt v rows handed
+        → AreTableRows (rows ++ row ∷ []) → IsBehind v row }
 {}
 
 /// What was stored is read back, wherever it stands.
@@ -66,7 +67,8 @@ pub fn a_text_is_refused_in_one_way()
 /// Where a table's index tells a data block stands one of its blocks, and each of them stands where the index tells it.
 pub fn data_blocks_stand_where_the_index_tells()
     ensures { (text : List ℕ) (rows : List Row) (number : ℕ) (session : List ℕ) → IsTable text rows number session
-        → (place : ℕ) (block : List Entry) → IsDataBlock text (index_from 0 (data_blocks rows)) place block ↔ StandsAt (data_blocks rows) place block }
+        → (place : ℕ) (block : List Entry) → IsDataBlock text (index_from 0 (data_blocks rows)) place block
+        ↔ StandsAt (data_blocks rows) place block }
 {}
 
 /// What a table has of a key is the key's newest row, and nothing where no row has the key.

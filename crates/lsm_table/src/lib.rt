@@ -13,6 +13,7 @@ mod searching;
 mod storing;
 mod table;
 mod tables;
+mod walk;
 
 pub use building::{Finished, TableBuilder};
 pub use faults::{TableError, TableFault};
@@ -23,6 +24,7 @@ pub use laws::{
     data_blocks_stand_where_the_index_tells, stored_contents_are_read,
 };
 pub use parts::Properties;
+pub use rows::rows_of;
 pub use searching::row_of;
 pub use table::Table;
 pub use tables::Tables;

@@ -57,6 +57,7 @@ pub(crate) fn read_contents<V: View>(
     ensures ok { IfOk result (λ contents. (text : List ℕ) → Tells (V.viewed view.old) text → contents_at place len text ≡ Ok contents) }
     ensures err { IfErr result (λ e. (text : List ℕ) → Tells (V.viewed view.old) text → IsFaultOf (contents_at place len text) e) }
     ensures len { IfOk result (λ contents. length contents ≡ len) }
+    ensures there { (text : List ℕ) → Tells (V.viewed view.old) text → place + len + 5 ≤ length text }
     ensures view { Stays (V.viewed view.old) (V.viewed view.new) }
     ensures cause { IfErr result (λ e. e ≡ ReadFault → Rose (V.viewed view.old).faults (V.viewed view.new).faults) }
 {

@@ -1,4 +1,4 @@
-//! The rows of a table in runs, each after a key.
+//! The rows of a table in runs, each after a key, and those of one block.
 ghost use Rattle.std.specs.Prelude.{◌≡◌, ◌≤◌, ℕ, List, All, ◌++◌, take, length, map, flat_map, IfOk, IfErr, OnOk, MatchResult};
 ghost use Rattle.std.specs.Option.{ForSome, option_map};
 ghost use Rattle.lsm_io.specs.Causes.{Rose};
@@ -9,14 +9,13 @@ ghost use Rattle.lsm_block.specs.Blocks.{IsKey, AreEntries};
 ghost use Rattle.lsm_block.specs.Runs.{rows_after};
 ghost use Rattle.lsm_table.specs.declared.faults.TableFault.TheVariants.{ReadFault};
 ghost use Rattle.lsm_table.specs.Opening.{TellsBlock, IsOutside};
-ghost use Rattle.lsm_table.specs.Rows.{entries_after, IsCutAfter, IsOfBlock, AreOfBlocks, row_at};
+ghost use Rattle.lsm_table.specs.Rows.{entries_after, IsCutAfter, AreOfBlocks, row_at};
 ghost use Rattle.lsm_table.specs.WholeTables.{IsTable};
 
 use crate::faults::TableFault;
-use crate::index::block_place;
-use crate::opening::read_block;
 use crate::searching::value_of;
 use crate::table::Table;
+use crate::walk::read_told;
 use lsm_block::{Block, Entry};
 use lsm_bytes::{Bytes, NoMemory};
 use lsm_disk::View;
@@ -30,7 +29,8 @@ impl<V: View> Table<V> {
     /// rows and one block, and reads only blocks that have some of them.
     pub fn rows(&mut self, after: Option<&[u8]>, count: u32) -> Result<Rows, TableFault>
         requires { ForSome (option_map (λ key. key.now) after) (λ key. 8 ≤ length key) }
-        ensures whole { (text : List ℕ) (rows : List Row) (number : ℕ) (session : List ℕ) → Tells self.old.viewed text → IsTable text rows number session
+        ensures whole { (text : List ℕ) (rows : List Row) (number : ℕ) (session : List ℕ) → Tells self.old.viewed text
+            → IsTable text rows number session
             → MatchResult result (λ run. run ≡ take count (rows_after (option_map (λ key. key.now) after.entry) rows)) IsOutside }
         ensures view { Stays self.old.viewed self.new.viewed }
         ensures cause { IfErr result (λ e. e ≡ ReadFault → Rose self.old.viewed.faults self.new.viewed.faults) }
@@ -105,6 +105,15 @@ fn row_at(alloc: Global, entry: &Entry) -> Result<Row, NoMemory>
     })
 }
 
+/// The rows that a block's entries are of, in their order. The block may be one of a table that isn't whole.
+pub fn rows_of(alloc: Global, block: &Block) -> Result<Rows, NoMemory>
+    ensures { IfOk result (λ rows. rows ≡ map row_at block.now) }
+{
+    let mut rows = Rows::new(alloc);
+    push_rows(alloc, &mut rows, block.entries())?;
+    Ok(rows)
+}
+
 // Adds the rows that these entries are of.
 fn push_rows(alloc: Global, rows: &mut Rows, entries: &[Entry]) -> Result<(), NoMemory>
     requires { All (λ e. IsKey e.key) entries.now }
@@ -117,20 +126,6 @@ fn push_rows(alloc: Global, rows: &mut Rows, entries: &[Entry]) -> Result<(), No
     Ok(())
 }
 
-// The block that an entry of an index tells.
-fn read_told<V: View>(alloc: Global, view: &mut V, entry: &Entry) -> Result<Block, TableFault>
-    requires { TellsBlock entry.now }
-    ensures ok { IfOk result (λ b. (text : List ℕ) (block : List Entry) → Tells (V.viewed view.old) text → IsOfBlock text entry.now block → b ≡ block) }
-    ensures err { IfErr result (λ e. (text : List ℕ) (block : List Entry) → Tells (V.viewed view.old) text → IsOfBlock text entry.now block → IsOutside e) }
-    ensures view { Stays (V.viewed view.old) (V.viewed view.new) }
-    ensures cause { IfErr result (λ e. e ≡ ReadFault → Rose (V.viewed view.old).faults (V.viewed view.new).faults) }
-{
-    let Some((place, len)) = block_place(entry.value.as_slice()) else {
-        unreachable!()
-    };
-    read_block(alloc, view, place, len)
-}
-
 // The first rows after a key, so many at most, in the blocks that these entries of an index tell.
 fn read_rows<V: View>(
     alloc: Global,
@@ -141,9 +136,11 @@ fn read_rows<V: View>(
 ) -> Result<Rows, TableFault>
     requires places { All TellsBlock index.now }
     requires long { ForSome (option_map (λ key. key.now) after) (λ key. 8 ≤ length key) }
-    ensures ok { IfOk result (λ run. (text : List ℕ) (blocks : List (List Entry)) → Tells (V.viewed view.old) text → AreOfBlocks text index.now blocks
+    ensures ok { IfOk result (λ run. (text : List ℕ) (blocks : List (List Entry)) → Tells (V.viewed view.old) text
+        → AreOfBlocks text index.now blocks
         → run ≡ map row_at (take count (entries_after (option_map (λ key. key.now) after.entry) (flat_map (λ es. es) blocks)))) }
-    ensures err { IfErr result (λ e. (text : List ℕ) (blocks : List (List Entry)) → Tells (V.viewed view.old) text → AreOfBlocks text index.now blocks → IsOutside e) }
+    ensures err { IfErr result (λ e. (text : List ℕ) (blocks : List (List Entry)) → Tells (V.viewed view.old) text
+        → AreOfBlocks text index.now blocks → IsOutside e) }
     ensures view { Stays (V.viewed view.old) (V.viewed view.new) }
     ensures cause { IfErr result (λ e. e ≡ ReadFault → Rose (V.viewed view.old).faults (V.viewed view.new).faults) }
 {

@@ -50,7 +50,8 @@ impl<V: View> Table<V> {
     pub fn open(alloc: Global, view: V) -> Result<Table<V>, TableError<V>>
         ensures opened { IfOk result (λ table. (text : List ℕ) → Tells (V.viewed view) text → Opens text table.properties table.index) }
         ensures refused { IfErr result (λ error. (text : List ℕ) → Tells (V.viewed view) text → IsRefused text error.why) }
-        ensures whole { (text : List ℕ) (rows : List Row) (number : ℕ) (session : List ℕ) → Tells (V.viewed view) text → IsTable text rows number session
+        ensures whole { (text : List ℕ) (rows : List Row) (number : ℕ) (session : List ℕ) → Tells (V.viewed view) text
+            → IsTable text rows number session
             → MatchResult result (λ table. (table.properties ≡ record { number = number; session = session; rows = length rows })
             × (table.index ≡ index_from 0 (data_blocks rows))) (λ error. IsOutside error.why) }
         ensures kept { IfOk result (λ table. Stays (V.viewed view) table.viewed) }
@@ -93,7 +94,8 @@ impl<V: View> Table<V> {
     pub fn block(&mut self, place: u64) -> Result<Block, TableFault>
         ensures ok { IfOk result (λ block. (text : List ℕ) → Tells self.old.viewed text → IsDataBlock text self.old.index place block) }
         ensures err { IfErr result (λ e. (text : List ℕ) → Tells self.old.viewed text → IsBlockRefused text self.old.index place e) }
-        ensures whole { (text : List ℕ) (rows : List Row) (number : ℕ) (session : List ℕ) (block : List Entry) → Tells self.old.viewed text → IsTable text rows number session
+        ensures whole { (text : List ℕ) (rows : List Row) (number : ℕ) (session : List ℕ) (block : List Entry)
+            → Tells self.old.viewed text → IsTable text rows number session
             → StandsAt (data_blocks rows) place block → MatchResult result (λ got. got ≡ block) IsOutside }
         ensures view { Stays self.old.viewed self.new.viewed }
         ensures cause { IfErr result (λ e. e ≡ ReadFault → Rose self.old.viewed.faults self.new.viewed.faults) }
@@ -112,7 +114,8 @@ impl<V: View> Table<V> {
     pub fn get(&mut self, key: &[u8]) -> Result<Option<Row>, TableFault>
         ensures ok { IfOk result (λ row. (text : List ℕ) → Tells self.old.viewed text → IsGot text self.old.index key.now row) }
         ensures err { IfErr result (λ e. (text : List ℕ) → Tells self.old.viewed text → IsNotGot text self.old.index key.now e) }
-        ensures whole { (text : List ℕ) (rows : List Row) (number : ℕ) (session : List ℕ) → Tells self.old.viewed text → IsTable text rows number session
+        ensures whole { (text : List ℕ) (rows : List Row) (number : ℕ) (session : List ℕ) → Tells self.old.viewed text
+            → IsTable text rows number session
             → MatchResult result (λ row. row ≡ newest key.now rows) IsOutside }
         ensures view { Stays self.old.viewed self.new.viewed }
         ensures cause { IfErr result (λ e. e ≡ ReadFault → Rose self.old.viewed.faults self.new.viewed.faults) }

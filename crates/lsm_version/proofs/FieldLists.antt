@@ -1,11 +1,9 @@
 -- An edit and its fields stand for each other.
-use Rattle.std.proofs.Common.{◌≡◌, ℕ, List, [], ◌∷◌, ◌++◌, length, refl, sym, ap, ◌∙◌, append_assoc, true, Option, Some, None}
+use Rattle.std.proofs.Common.{◌≡◌, ℕ, List, [], ◌∷◌, ◌++◌, refl, sym, ap, ◌∙◌, append_assoc, Option, Some, None}
 use Rattle.std.specs.Prelude.{map}
 use Rattle.std.specs.List.{fold}
 use Rattle.std.proofs.lemmas.List.{append-nil}
 use Rattle.std.proofs.lemmas.List.Sums.{fold-append}
-use Rattle.lsm_names.specs.Sessions.{is_session}
-use Rattle.lsm_names.proofs.SessionLemmas.{length_of_session}
 use Rattle.lsm_version.specs.declared.tables.Add.{Add}
 use Rattle.lsm_version.specs.declared.tables.Place.{Place}
 use Rattle.lsm_version.specs.declared.edits.Edit.{Edit}

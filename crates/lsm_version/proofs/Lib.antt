@@ -1,6 +1,7 @@
 pub mod Applied
 pub mod FieldLists
 pub mod Overlaps
+pub mod PlaceOrders
 pub mod ReadEdits
 pub mod ReadFields
 pub mod ReadKeys

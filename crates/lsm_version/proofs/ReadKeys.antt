@@ -20,7 +20,7 @@ use Rattle.lsm_rows.proofs.ReadHeader.{Bytes}
 use Rattle.lsm_rows.proofs.InternalOrder.{parsed}
 use Rattle.lsm_version.specs.Edits.{IsKey}
 use Rattle.lsm_version.specs.Reading.{IsKeyIn, IsKeyAt}
-use Rattle.lsm_version.proofs.Texts.{sized_is}
+use Rattle.lsm_rows.proofs.ReadSized.{sized-is}
 
 -- bytes past the end count as zeros, so that zeros behind them change none
 zero_at : (n i : ℕ) → get_or (replicate {A = ℕ} n 0) i 0 ≡ 0
@@ -139,7 +139,7 @@ key_len_fault bytes at place inner = record {
         value = replicate is.n 0;
         spelled =
             ap (λ (s : List ℕ). s ++ replicate is.n 0) (IsVarint-one_spelling v is.n is.spelled)
-            ∙ ap (λ (k : ℕ). varint k ++ replicate is.n 0) (sym (length-replicate {A = ℕ} is.n 0)) ∙ sym (sized_is (replicate is.n 0));
+            ∙ ap (λ (k : ℕ). varint k ++ replicate is.n 0) (sym (length-replicate {A = ℕ} is.n 0)) ∙ sym (sized-is (replicate is.n 0));
         key_is = zeros_key is.n is.low is.high;
       },
     )
@@ -151,7 +151,7 @@ key_len_fault bytes at place inner = record {
         record {
           piece = varint (length value);
           more = value ++ ahead.more;
-          joined = ahead.joined ∙ ap (λ (s : List ℕ). s ++ ahead.more) (ahead.good.spelled ∙ sized_is value) ∙ append_assoc (varint (length value)) value ahead.more;
+          joined = ahead.joined ∙ ap (λ (s : List ℕ). s ++ ahead.more) (ahead.good.spelled ∙ sized-is value) ∙ append_assoc (varint (length value)) value ahead.more;
           good = record { n = length value; spelled = IsVarint-varint (length value); low = has.long; high = has.short };
         }
 
@@ -165,7 +165,7 @@ body_fault bytes at n start place is inner =
       [],
       record {
         value = v;
-        spelled = ap (λ (s : List ℕ). varint n ++ s) (append-nil v) ∙ ap (λ (k : ℕ). varint k ++ v) (sym body.size) ∙ sym (sized_is v);
+        spelled = ap (λ (s : List ℕ). varint n ++ s) (append-nil v) ∙ ap (λ (k : ℕ). varint k ++ v) (sym body.size) ∙ sym (sized-is v);
         key_is = body.key_is;
       },
     )
@@ -174,7 +174,7 @@ body_fault bytes at n start place is inner =
     needed t ahead =
         let value : List ℕ = ahead.good.value in
         let once = varint_once n (length value) t (value ++ ahead.more)
-        (ahead.joined ∙ ap (λ (s : List ℕ). s ++ ahead.more) (ahead.good.spelled ∙ sized_is value) ∙ append_assoc (varint (length value)) value ahead.more) in
+        (ahead.joined ∙ ap (λ (s : List ℕ). s ++ ahead.more) (ahead.good.spelled ∙ sized-is value) ∙ append_assoc (varint (length value)) value ahead.more) in
         record { piece = value; more = ahead.more; joined = once.1; good = record { size = sym once.0; key_is = ahead.good.key_is } }
 
 -- a byte of no kind where the kind stands
@@ -247,7 +247,7 @@ key_at bytes at n start is fits long kind =
     let value : List ℕ = take n rest in
     let size : length value ≡ n = length-take n rest ∙ omega (arith, long) in
     let there : length value - 8 ≡ n - 8 = omega (arith, size) in
-    let spelled : sized value ≡ varint n ++ value = sized_is value ∙ ap (λ (k : ℕ). varint k ++ value) size in
+    let spelled : sized value ≡ varint n ++ value = sized-is value ∙ ap (λ (k : ℕ). varint k ++ value) size in
     record {
       key_is = key_of value (omega (arith, size, is.low)) (omega (arith, size, is.high)) (bytes_taken rest n fits)
           (omega (arith, ap (λ (i : ℕ). get_or value i 0) there, taken_at rest n (n - 8) (omega (arith, is.low)), kind));

@@ -6,15 +6,11 @@ use Rattle.std.proofs.lemmas.List.{length-replicate}
 use Rattle.std.proofs.lemmas.Bool.Decides.{nat_tests}
 use Rattle.std.proofs.Math.ListN.{get_or-append}
 use Rattle.lsm_names.specs.Sessions.{is_session_byte, is_session}
-use Rattle.lsm_names.proofs.SessionLemmas.{length_of_session}
+use Rattle.lsm_names.proofs.SessionLemmas.{length_of_session, bytes_of_session}
 use Rattle.lsm_rows.specs.Pieces.{Begins, FaultFrom}
 use Rattle.lsm_version.specs.Reading.{IsSessionIn, IsSessionAt}
 use Rattle.lsm_version.proofs.ReadKeys.{taken_at}
 use Rattle.std.proofs.lemmas.Bool.{and_parts}
-
-bytes_of : (name : List ℕ) → is_session name ≡ true → list_all is_session_byte name ≡ true
-unfolding is_session
-bytes_of name h = grind (arith, nat_tests)
 
 pub session_of : (name : List ℕ) → length name ≡ 20 → list_all is_session_byte name ≡ true → is_session name ≡ true
 unfolding is_session
@@ -47,7 +43,7 @@ no_session : (i : ℕ) (t : List ℕ) → i < 20 → IsBadByte i t → Begins Is
 no_session i t less bad ahead =
     let piece : List ℕ = ahead.piece in
     let size : length piece ≡ 20 = length_of_session piece ahead.good.good in
-    let good : is_session_byte (get_or piece i 0) ≡ true = all_at is_session_byte piece i (bytes_of piece ahead.good.good) (omega (arith, size, less)) in
+    let good : is_session_byte (get_or piece i 0) ≡ true = all_at is_session_byte piece i (bytes_of_session piece ahead.good.good) (omega (arith, size, less)) in
     let same : get_or t i 0 ≡ get_or piece i 0 = ap (λ (s : List ℕ). get_or s i 0) ahead.joined ∙ get_or-append piece ahead.more 0 i (omega (arith, size, less)) in
     by_bad (omega (arith, ap (length {A = ℕ}) ahead.joined, length-append piece ahead.more, size, less)) (ap is_session_byte same ∙ good) bad
   where

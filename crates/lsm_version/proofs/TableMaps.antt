@@ -16,6 +16,8 @@ use Rattle.lsm_version.specs.Levels.{Tables}
 use Rattle.lsm_version.specs.declared.tables.Place.{Place}
 use Rattle.lsm_version.specs.Versions.{empty_version, is_of_level, dropped, added}
 use Rattle.lsm_version.specs.declared.tables.Add.{Add}
+use Rattle.lsm_rows.proofs.NewestRows.{equal_of}
+use Rattle.lsm_rows.proofs.PairEntries.{both}
 
 abbrev pub tables_of : List (ℕ × Placed) → Tables
 tables_of entries = finite.from_entries entries
@@ -47,13 +49,8 @@ tables_put es new k v is =
     ∙ find-put nat_cmp nat_cmp_total q k v es
     ∙ sym (finite.get-insert nat_cmp_total (tables_of es) k v q ∙ ap (cond (eq_by_cmp nat_cmp q k) (Some v)) (finite.get-from_entries nat_cmp_total es q)))
 
-is_equal : (o : Ordering) → is_eq o ≡ true → o ≡ Equal
-is_equal Less e = cc
-is_equal Equal e = refl
-is_equal Greater e = cc
-
-same_number : (q k : ℕ) → is_eq (nat_cmp q k) ≡ true → q ≡ k
-same_number q k e = finite.nat_cmp-IsAntisymmetric q k (is_equal (nat_cmp q k) e)
+pub same_number : (q k : ℕ) → is_eq (nat_cmp q k) ≡ true → q ≡ k
+same_number q k e = finite.nat_cmp-IsAntisymmetric q k (equal_of (nat_cmp q k) e)
 
 -- the table that is taken out is there no more, and the others stay
 module _ (es new : List (ℕ × Placed)) (number : ℕ) (gone : lookup (λ (k : ℕ). is_eq (nat_cmp number k)) new ≡ None)
@@ -93,10 +90,6 @@ added_is tables add is = rw is refl
 
 -- ---- a map of std keeps its keys in order
 
-both : (a b : Bool) → T a → T b → T (a && b)
-both true b p q = q
-both false b p q = p
-
 below_from : (k : ℕ) (es : List (ℕ × Placed)) → AllByRecursion (λ (y : ℕ). nat_cmp k y ≡ Less) (keys_of es) → T (below_all nat_cmp k es)
 below_from k [] below = tt
 below_from k (e ∷ es) below = both (is_lt (nat_cmp k e.0)) (below_all nat_cmp k es) (subst (λ (r : Ordering). T (is_lt r)) (sym below.0) tt) (below_from k es below.1)
@@ -128,15 +121,15 @@ abbrev pub or_else : Option Placed → Option Placed → Option Placed
 or_else None other = other
 or_else (Some v) other = Some v
 
-first : (a b : Bool) → T (a && b) → T a
+pub first : (a b : Bool) → T (a && b) → T a
 first true b p = tt
 first false b p = p
 
-later : (a b : Bool) → T (a && b) → T b
+pub later : (a b : Bool) → T (a && b) → T b
 later true b p = p
 later false b p = absurd p
 
-none_from : (k : ℕ) (es : List (ℕ × Placed)) → T (below_all nat_cmp k es) → finite.find nat_cmp k es ≡ None
+pub none_from : (k : ℕ) (es : List (ℕ × Placed)) → T (below_all nat_cmp k es) → finite.find nat_cmp k es ≡ None
 none_from k [] below = refl
 none_from k (e ∷ es) below =
     elim (nat_cmp k e.0) as (λ o. T (is_lt o && below_all nat_cmp k es) → cond (is_eq o) (Some e.1) (finite.find nat_cmp k es) ≡ None) [

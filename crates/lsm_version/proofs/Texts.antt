@@ -1,11 +1,10 @@
 -- No field's text begins another's, so a text is of one list of fields.
-use Rattle.std.proofs.Common.{◌≡◌, ℕ, List, [], ◌∷◌, ◌++◌, length, refl, sym, ap, ◌∙◌, append_assoc, true}
+use Rattle.std.proofs.Common.{◌≡◌, ℕ, List, [], ◌∷◌, ◌++◌, refl, sym, ap, ◌∙◌, append_assoc, true}
 use Rattle.std.specs.List.{flat_map}
 use Rattle.lsm_bytes.specs.Varint.{varint}
 use Rattle.lsm_names.specs.Sessions.{is_session}
 use Rattle.lsm_rows.specs.BatchText.{sized}
 use Rattle.lsm_rows.proofs.Prefixes.{varint_once, same_length, sized_once}
-use Rattle.lsm_rows.proofs.ReadSized.{sized-is}
 use Rattle.lsm_version.specs.declared.tables.TableInfo.{TableInfo}
 use Rattle.lsm_version.specs.declared.tables.Add.{Add}
 use Rattle.lsm_version.specs.declared.tables.Place.{Place}
@@ -17,9 +16,6 @@ use Rattle.lsm_version.specs.EditText.{place_text, rest_text, field_text, fields
 use Rattle.lsm_version.specs.Edits.{IsTable, InRange, AreFields, rank_of, start, IsEditText}
 use Rattle.lsm_version.proofs.FieldLists.{fields_only}
 use Rattle.lsm_names.proofs.SessionLemmas.{length_of_session}
-
-pub sized_is : (value : List ℕ) → sized value ≡ varint (length value) ++ value
-sized_is value = sized-is value
 
 pub place_once : (level number level' number' : ℕ) (x y : List ℕ) → place_text level number ++ x ≡ place_text level' number' ++ y
     → (level ≡ level') × (number ≡ number') × (x ≡ y)

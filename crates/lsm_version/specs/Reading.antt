@@ -102,7 +102,8 @@ pub record IsRank (rank : Rank) : Type 0 where
 pub record IsBehind (tag : ℕ) (after : Rank) (behind : Place) : Type 0 where
   pub more : HasNext behind
   pub makes : (level number : ℕ) → PlaceBefore behind.level behind.number level number → Before after (rank_at tag level number)
-  pub needs : (level number : ℕ) → IsPlace level number → Before after (rank_at tag level number) → PlaceBefore behind.level behind.number level number
+  pub needs : (level number : ℕ) → IsPlace level number → Before after (rank_at tag level number)
+      → PlaceBefore behind.level behind.number level number
 
 -- the text of a field that may stand behind what has this rank
 pub record IsFieldIn (after : Rank) (piece : List ℕ) : Type 0 where

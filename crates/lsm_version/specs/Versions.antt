@@ -22,7 +22,8 @@ coded_table =
     (λ p. record { number = p.0; session = p.1.0; size = p.1.1.0; smallest = p.1.1.1.0; largest = p.1.1.1.1 }) (λ _. refl)
 
 abbrev pub coded_placed : Coded Placed
-coded_placed = code_by (ℕ × TableInfo) (coded× coded_ℕ coded_table) (λ p. (p.level, p.info)) (λ p. record { level = p.0; info = p.1 }) (λ _. refl)
+coded_placed = code_by (ℕ × TableInfo) (coded× coded_ℕ coded_table) (λ p. (p.level, p.info))
+    (λ p. record { level = p.0; info = p.1 }) (λ _. refl)
 
 abbrev pub coded_tables : Coded Tables
 coded_tables = finite.code coded_ℕ coded_placed

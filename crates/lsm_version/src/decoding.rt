@@ -4,7 +4,7 @@ ghost use Rattle.lsm_version.specs.Edits.{IsEditText, rank_of};
 ghost use Rattle.lsm_version.specs.Decoding.{IsBad};
 ghost use Rattle.lsm_version.specs.Reading.{with_field};
 
-use crate::edits::{Adds, Edit, Places};
+use crate::edits::{Adds, Drops, Edit};
 use crate::field_reading::read_field;
 use crate::fields::{ADDED, DROPPED, Field, LAST_SEQUENCE, LOG_NUMBER, NEXT_NUMBER, Rank};
 use crate::refusals::EditError;
@@ -22,7 +22,7 @@ pub fn decode_edit(alloc: Global, bytes: &[u8]) -> Result<Edit, EditError>
         next: None,
         last: None,
         adds: Adds::new(alloc),
-        drops: Places::new(alloc),
+        drops: Drops::new(alloc),
     };
     let mut at = 0;
     let mut after = Rank {

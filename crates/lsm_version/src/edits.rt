@@ -19,7 +19,7 @@ pub struct Edit {
     /// The last sequence in tables, at most 2^56 - 1.
     pub last: Option<u64>,
     pub adds: Adds,
-    pub drops: Places,
+    pub drops: Drops,
 }
 
 /// Tables that are added, in their order. Contracts see the list.
@@ -76,25 +76,24 @@ impl Adds {
     }
 }
 
-/// Places of tables, in their order: those that an edit drops, or those that a compaction reads. Contracts see the
-/// list.
+/// The places of tables that are dropped, in their order. Contracts see the list.
 #[derive(Drop)]
-pub struct Places {
+pub struct Drops {
     items: Vec<Place>,
 }
 
-impl Model for Places {
+impl Model for Drops {
     ghost Value = { List Place };
 
-    ghost view = { λ p. p.items.items };
+    ghost view = { λ d. d.items.items };
 }
 
-impl Places {
+impl Drops {
     /// No places. It takes its memory from `alloc` as places come in.
     pub fn new(alloc: Global) -> Self
         ensures { result ≡ [] }
     {
-        Places {
+        Drops {
             items: Vec::new(alloc),
         }
     }

@@ -9,17 +9,17 @@ ghost use Rattle.lsm_rows.specs.InternalKeys.{user_key};
 ghost use Rattle.lsm_rows.specs.Replay.{key_cmp};
 ghost use Rattle.std.specs.Ordering.{is_le, nat_cmp};
 ghost use Rattle.std.specs.BTreeMap.{IsOrdered};
+ghost use Rattle.lsm_version.specs.Orders.{level_places, places_of, search_order};
 ghost use Rattle.lsm_version.specs.Versions.{empty_version, is_of_level, dropped, added, applied, refused_by, first_of};
 
+use crate::choices::Inputs;
 use crate::edits::Edit;
+use crate::orders::{LEVELS, push_level, push_levels};
 use crate::refusals::ApplyError;
 use crate::tables::{Add, Place, Placed, TableInfo};
 use std::alloc::Global;
 use std::collections::BTreeMap;
 use std::marker::Model;
-
-// How many levels there are.
-const LEVELS: u8 = 7;
 
 // The bytes behind the user key in an internal key.
 const TRAILER: usize = 8;
@@ -65,6 +65,35 @@ impl Version {
         ensures { option_map (λ placed. placed.now) result ≡ finite.get self.now number }
     {
         self.tables.get(&number)
+    }
+
+    /// The places of a level's tables, by their numbers.
+    pub fn level_places(&self, alloc: Global, level: u8) -> Result<Inputs, lsm_bytes::NoMemory>
+        ensures { IfOk result (λ places. places ≡ level_places self.now level) }
+    {
+        let mut places = Inputs::new(alloc);
+        push_level(&mut places, &self.tables, level)?;
+        Ok(places)
+    }
+
+    /// The places of all tables, by level and then by number.
+    pub fn places(&self, alloc: Global) -> Result<Inputs, lsm_bytes::NoMemory>
+        ensures { IfOk result (λ places. places ≡ places_of self.now) }
+    {
+        let mut places = Inputs::new(alloc);
+        push_levels(&mut places, &self.tables, 0)?;
+        Ok(places)
+    }
+
+    /// The places of all tables in the order in which a key is looked for: newest rows first.
+    pub fn search_order(&self, alloc: Global) -> Result<Inputs, lsm_bytes::NoMemory>
+        ensures { IfOk result (λ order. order ≡ search_order self.now) }
+    {
+        let mut order = Inputs::new(alloc);
+        push_level(&mut order, &self.tables, 0)?;
+        order.reverse();
+        push_levels(&mut order, &self.tables, 1)?;
+        Ok(order)
     }
 
     /// The version after an edit: its drops first, and then its adds. This version stays as it was.
@@ -180,7 +209,8 @@ fn copied(
 
 // The least level from 1 on at which tables overlap, and the numbers of its first two.
 fn first_of_levels(tables: &BTreeMap<u64, Placed>) -> Option<(u8, u64, u64)>
-    ensures first { option_map (λ p. record { level = p.0; left = p.1; right = p.2 }) result ≡ first_of (overlaps_from 6 1 tables.now.entries) }
+    ensures first { option_map (λ p. record { level = p.0; left = p.1; right = p.2 }) result
+        ≡ first_of (overlaps_from 6 1 tables.now.entries) }
     ensures ordered { IsOrdered nat_cmp tables.now }
 {
     for level in 1..LEVELS {
@@ -194,7 +224,8 @@ fn first_of_levels(tables: &BTreeMap<u64, Placed>) -> Option<(u8, u64, u64)>
 // The numbers of a level's first two tables that overlap: the least first one, and of its pairs the least second
 // one.
 fn first_overlap(tables: &BTreeMap<u64, Placed>, level: u8) -> Option<(u64, u64)>
-    ensures first { option_map (λ p. record { level = level; left = p.0; right = p.1 }) result ≡ first_of (overlaps_at level tables.now.entries) }
+    ensures first { option_map (λ p. record { level = level; left = p.0; right = p.1 }) result
+        ≡ first_of (overlaps_at level tables.now.entries) }
     ensures ordered { IsOrdered nat_cmp tables.now }
 {
     for (number, placed) in tables {
@@ -209,7 +240,8 @@ fn first_overlap(tables: &BTreeMap<u64, Placed>, level: u8) -> Option<(u64, u64)
 
 // The least number of the tables that overlap this one, are of its level and have a greater number.
 fn first_with(tables: &BTreeMap<u64, Placed>, number: u64, placed: &Placed) -> Option<u64>
-    ensures { option_map (λ b. record { level = placed.now.level; left = number; right = b }) result ≡ first_of (overlaps_with placed.now.level tables.now.entries (number, placed.now)) }
+    ensures { option_map (λ b. record { level = placed.now.level; left = number; right = b }) result
+        ≡ first_of (overlaps_with placed.now.level tables.now.entries (number, placed.now)) }
 {
     for (other, beside) in tables {
         if clash(number, placed, *other, beside) {

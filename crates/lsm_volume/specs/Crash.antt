@@ -10,4 +10,5 @@ all_synced (b ∷ bs) = (record { synced = b; unsynced = [] }) ∷ all_synced bs
 
 -- the disk is one image of the other, and everything in it is durable
 abbrev pub IsCrashOf : Seen → Seen → Type 0
-IsCrashOf old new = IfSome old.told (λ story. (t : Tree) × IsImage (state_of story) t × (new ≡ seen_of (start_of (state_of story).links t.names (all_synced t.contents)) [] 0 0))
+IsCrashOf old new = IfSome old.told (λ story. (t : Tree) × IsImage (state_of story) t
+    × (new ≡ seen_of (start_of (state_of story).links t.names (all_synced t.contents)) [] 0 0))

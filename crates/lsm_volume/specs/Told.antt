@@ -12,7 +12,11 @@ start_of links names files = record { durable = names; pending = []; files = fil
 
 -- a disk that tells this story
 abbrev pub seen_of : State → List Change → ℕ → ℕ → Seen
-seen_of start changes faults refusals = record { told = Some (record { start = start; log = changes }); faults = faults; refusals = refusals }
+seen_of start changes faults refusals = record {
+  told = Some (record { start = start; log = changes });
+  faults = faults;
+  refusals = refusals;
+}
 
 -- an empty disk: the root alone, and counts of 0
 abbrev pub blank_seen : Bool → Seen

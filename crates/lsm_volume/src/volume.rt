@@ -55,7 +55,8 @@ impl Model for Volume {
 
     ghost view = { λ m. seen_of (start_of m.links m.first_names m.first_files.items) m.history.log m.faults m.refusals };
 
-    ghost invariant = { λ m. IsTied m.links m.names m.names_synced m.files.items (state_after (start_of m.links m.first_names m.first_files.items) m.history.log)
+    ghost invariant = { λ m. IsTied m.links m.names m.names_synced m.files.items
+        (state_after (start_of m.links m.first_names m.first_files.items) m.history.log)
         × HasRoom m.names m.names_synced m.files.items m.loose m.history.room };
 }
 
@@ -162,7 +163,8 @@ impl Volume {
     }
 
     pub fn list(&mut self, folder: &Path) -> Result<Listing, DiskError>
-        ensures listed { IfOk result (λ entries. IfSome self.old.told (λ story. entries ≡ listing folder.now (names_now (state_of story)))) }
+        ensures listed { IfOk result (λ entries. IfSome self.old.told
+            (λ story. entries ≡ listing folder.now (names_now (state_of story)))) }
         ensures did { self.new.told ≡ self.old.told }
         ensures answer { Answers (no_folder folder.now) self.old result }
         ensures cause { HasCause self.old self.new result }

@@ -20,13 +20,13 @@ use Rattle.lsm_wal.specs.declared.why.WalWhy.TheVariants as why
 use Rattle.lsm_wal.proofs.Once.{Starts, slice_map}
 use Rattle.lsm_wal.proofs.Texts.{sequence_push}
 use Rattle.std.proofs.lemmas.Option.{same_Some}
-use Rattle.lsm_frame.proofs.Going.{tells_still}
+use Rattle.lsm_frame.proofs.Going.{tells_still, stays_trans}
 
 pub sequence_more : (first : ℕ) (batches : List (List Op)) (ops : List Op) → sequence_after first (batches ++ ops ∷ []) ≡ sequence_after first batches + length ops
 sequence_more first [] ops = refl
 sequence_more first (batch ∷ batches) ops = sequence_more (first + length batch) batches ops
 
-take_one_more : (n : ℕ) (texts : List (List ℕ)) (text : List ℕ) → slice_get texts n ≡ Some text → take (suc n) texts ≡ take n texts ++ text ∷ []
+pub take_one_more : (n : ℕ) (texts : List (List ℕ)) (text : List ℕ) → slice_get texts n ≡ Some text → take (suc n) texts ≡ take n texts ++ text ∷ []
 take_one_more n [] text is = cc
 take_one_more zero (t ∷ texts) text is = ap (λ (x : List ℕ). x ∷ []) (same_Some t text is)
 take_one_more (suc n) (t ∷ texts) text is = ap (λ (l : List (List ℕ)). t ∷ l) (take_one_more n texts text is)
@@ -66,9 +66,6 @@ lost_read expected text batches (why.Gap kept found) starts lost = (batches, los
 
 -- ---- by a reader
 
-stays_on : (a b c : Viewed) → Stays a b → Stays b c → Stays a c
-stays_on a b c one two = record { bytes = two.bytes ∙ one.bytes; len = two.len ∙ one.len; faults = omega (arith, one.faults, two.faults) }
-
 -- from the start on the reader gave the records of these batches, and the next one is to begin with this sequence
 pub record Going (start now : Reader) (expected next : ℕ) (batches : List (List Op)) : Type 0 where
   pub counted : now.given ≡ length batches
@@ -91,7 +88,7 @@ module _ (start now new : Reader) (expected next : ℕ) (batches : List (List Op
       → Going start new expected after more
   going_more ops after more at follows is grown = subst (Going start new expected after) (sym grown) (record {
     counted = follows.0 ∙ ap (λ (n : ℕ). n + 1) going.counted ∙ sym (length-append batches (ops ∷ []));
-    view = stays_on start.viewed now.viewed new.viewed going.view stays;
+    view = stays_trans start.viewed now.viewed new.viewed going.view stays;
     next_is = is ∙ ap (λ (n : ℕ). n + length ops) going.next_is ∙ sym (sequence_more expected batches ops);
     some = omega (arith, is, going.some);
     starts = λ text tells.
@@ -101,7 +98,7 @@ module _ (start now new : Reader) (expected next : ℕ) (batches : List (List Op
   })
 
   pub going_view : Stays start.viewed new.viewed
-  going_view = stays_on start.viewed now.viewed new.viewed going.view stays
+  going_view = stays_trans start.viewed now.viewed new.viewed going.view stays
 
   pub going_rose : Rose now.viewed.faults new.viewed.faults → Rose start.viewed.faults new.viewed.faults
   going_rose rose = omega (arith, rose, going.view.faults)

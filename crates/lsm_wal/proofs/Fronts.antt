@@ -32,7 +32,7 @@ whole_reads expected batches each =
     all_read expected (wal_text (in_sequence expected batches)) batches End read.0 each read.1
 
 -- an open end is none, or a torn record
-as_open : (ending : Ending) → IsOpen ending → (torn : Option ℕ) × (ending ≡ open_end torn)
+pub as_open : (ending : Ending) → IsOpen ending → (torn : Option ℕ) × (ending ≡ open_end torn)
 as_open End open_ = (None, refl)
 as_open (Torn place) open_ = (Some place, refl)
 as_open (Damaged place kept found) open_ = absurd open_

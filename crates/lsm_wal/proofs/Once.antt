@@ -21,10 +21,10 @@ pub record Starts (expected : ℕ) (texts : List (List ℕ)) (batches : List (Li
   pub are : take (length batches) texts ≡ map text_of (in_sequence expected batches)
   pub each : All IsLogged (in_sequence expected batches)
 
-head_of : {A : Type 0} (x y : A) (xs ys : List A) → x ∷ xs ≡ y ∷ ys → x ≡ y
+pub head_of : {A : Type 0} (x y : A) (xs ys : List A) → x ∷ xs ≡ y ∷ ys → x ≡ y
 head_of x y xs ys e = cc
 
-tail_of : {A : Type 0} (x y : A) (xs ys : List A) → x ∷ xs ≡ y ∷ ys → xs ≡ ys
+pub tail_of : {A : Type 0} (x y : A) (xs ys : List A) → x ∷ xs ≡ y ∷ ys → xs ≡ ys
 tail_of x y xs ys e = cc
 
 no_texts : {A : Type 0} (n : ℕ) (x : A) (xs : List A) → take (suc n) [] ≡ x ∷ xs → ⊥
@@ -87,7 +87,7 @@ slice_inside [] n r is = cc
 slice_inside (x ∷ records) zero r is = omega arith
 slice_inside (x ∷ records) (suc n) r is = omega (arith, slice_inside records n r is)
 
-taken_few : {A : Type 0} (n : ℕ) (xs : List A) → length (take n xs) ≤ length xs
+pub taken_few : {A : Type 0} (n : ℕ) (xs : List A) → length (take n xs) ≤ length xs
 taken_few n xs = omega (arith, length-take n xs)
 
 module _ (expected : ℕ) (text : List ℕ) where

@@ -62,8 +62,10 @@ pub record ReadsToFront (expected : ℕ) (batches : List (List Op)) (durable : �
 -- what a refusal says of the text; a fault of the view and want of memory say nothing of it
 abbrev pub IsTrouble : ℕ → List ℕ → WalWhy → Type 0
 IsTrouble expected text why.ReadFault = Unit {0}
-IsTrouble expected text (why.Damaged place kept found) = (before : List (List Op)) × IsReading expected text before (At_end (ending.Damaged place kept found))
+IsTrouble expected text (why.Damaged place kept found) = (before : List (List Op))
+    × IsReading expected text before (At_end (ending.Damaged place kept found))
 IsTrouble expected text (why.Malformed place) = (before : List (List Op)) × IsReading expected text before (At_end (ending.Malformed place))
 IsTrouble expected text why.NoMemory = Unit {0}
 IsTrouble expected text (why.BadBatch place) = (before : List (List Op)) × IsReading expected text before (At_no_batch place)
-IsTrouble expected text (why.Gap kept found) = (before : List (List Op)) × (kept ≡ sequence_after expected before) × IsReading expected text before (At_gap found)
+IsTrouble expected text (why.Gap kept found) = (before : List (List Op)) × (kept ≡ sequence_after expected before)
+    × IsReading expected text before (At_gap found)

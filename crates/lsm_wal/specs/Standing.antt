@@ -47,4 +47,5 @@ durable_after sync durable batches = if sync then length batches else durable
 -- refused, the whole record, which is perhaps not durable.
 abbrev pub IsLeft : {T : Type 0} → List ℕ → List Logged → Logged → ℕ → Bool → Result T DiskRefusal → State → Type 0
 IsLeft path batches next durable sync (Ok value) s = IsWal s path (batches ++ next ∷ []) (durable_after sync durable (batches ++ next ∷ []))
-IsLeft path batches next durable sync (Err r) s = IsTornWal s path batches next durable × (r.at.call ≡ Sync → IsWal s path (batches ++ next ∷ []) durable)
+IsLeft path batches next durable sync (Err r) s = IsTornWal s path batches next durable
+    × (r.at.call ≡ Sync → IsWal s path (batches ++ next ∷ []) durable)

@@ -17,7 +17,8 @@ IsNotTaken payload place expected (why.Damaged at kept found) = ⊥
 IsNotTaken payload place expected (why.Malformed at) = ⊥
 IsNotTaken payload place expected why.NoMemory = Unit {0}
 IsNotTaken payload place expected (why.BadBatch at) = (at ≡ place) × ¬ IsSomeBatch payload
-IsNotTaken payload place expected (why.Gap kept found) = (kept ≡ expected) × (found ≢ expected) × ((ops : List Op) × IsBatchText payload found ops)
+IsNotTaken payload place expected (why.Gap kept found) = (kept ≡ expected) × (found ≢ expected)
+    × ((ops : List Op) × IsBatchText payload found ops)
 
 -- the record of this number is the batch of these operations from the expected sequence on
 pub record IsBatchAt (text : List ℕ) (number expected : ℕ) (ops : List Op) : Type 0 where

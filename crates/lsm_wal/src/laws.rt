@@ -13,9 +13,11 @@ ghost use Rattle.lsm_wal.specs.Reading.{Stop, At_end, IsReading, ReadsToFront, o
 /// A log of one batch more is the old text and the batch's record behind it, and a batch continues the sequence where it
 /// begins behind the last one.
 pub fn a_log_grows_by_one_record()
-    ensures text { (batches : List Logged) (next : Logged) → wal_text (batches ++ next ∷ []) ≡ wal_text batches ++ record_behind batches next }
+    ensures text { (batches : List Logged) (next : Logged) → wal_text (batches ++ next ∷ [])
+        ≡ wal_text batches ++ record_behind batches next }
     ensures sequence { (first : ℕ) (batches : List (List Op)) (ops : List Op)
-        → in_sequence first (batches ++ ops ∷ []) ≡ in_sequence first batches ++ record { first = sequence_after first batches; ops = ops } ∷ [] }
+        → in_sequence first (batches ++ ops ∷ []) ≡ in_sequence first batches
+        ++ record { first = sequence_after first batches; ops = ops } ∷ [] }
 {}
 
 /// Each image of a log has the first of its batches, and all that are durable; and so has each image of a log behind which
@@ -36,8 +38,10 @@ pub fn a_synced_log_has_all()
 /// A log's file is there, so an append to it is refused by a fault or want of memory alone. A change that doesn't touch the
 /// file or its name leaves the log, and a sync of the file makes all of its batches durable.
 pub fn a_log_stands_on()
-    ensures there { (s : State) (path : List ℕ) (batches : List Logged) (durable : ℕ) → IsWal s path batches durable → no_file path s ≡ None }
-    ensures untouched { (s : State) (path : List ℕ) (batches : List Logged) (durable : ℕ) (c : Change) → (wal : IsWal s path batches durable)
+    ensures there { (s : State) (path : List ℕ) (batches : List Logged) (durable : ℕ) → IsWal s path batches durable
+        → no_file path s ≡ None }
+    ensures untouched { (s : State) (path : List ℕ) (batches : List Logged) (durable : ℕ) (c : Change)
+        → (wal : IsWal s path batches durable)
         → Spares path wal.id c → IsWal (after s c) path batches durable }
     ensures synced { (s : State) (path : List ℕ) (batches : List Logged) (durable : ℕ) → IsWal s path batches durable
         → IsWal (after s (file_synced path s)) path batches (length batches) }
@@ -51,7 +55,8 @@ pub fn a_whole_log_reads_to_its_batches()
 
 /// What an image has of a log reads to the first of its batches, and all that are durable, and nothing is wrong behind them.
 pub fn an_image_reads_to_a_front()
-    ensures { (expected : ℕ) (path : List ℕ) (batches : List (List Op)) (durable : ℕ) (s : State) (t : Tree) → All IsLogged (in_sequence expected batches)
+    ensures { (expected : ℕ) (path : List ℕ) (batches : List (List Op)) (durable : ℕ) (s : State) (t : Tree)
+        → All IsLogged (in_sequence expected batches)
         → (held : HoldsFront path (in_sequence expected batches) durable s t) → ReadsToFront expected batches durable held.bytes }
 {}
 

@@ -79,7 +79,8 @@ fn frame_batch(
 // Makes the log's file.
 fn make_file<D: Disk>(disk: &mut D, path: &Path) -> Result<(), DiskRefusal>
     ensures went { (story : Story) → (D.seen disk.old).told ≡ Some story
-        → Went story (D.seen disk.new).told (Making path.now) (MayHaveNew (state_of story) path.now) (IsMade (state_of story) path.now result) }
+        → Went story (D.seen disk.new).told (Making path.now) (MayHaveNew (state_of story) path.now)
+        (IsMade (state_of story) path.now result) }
     ensures refused { IfErr result (IsRefusedAt calls.Create calls.SyncNames path.now (D.seen disk.old) (D.seen disk.new)) }
     ensures answer { AnswersAt calls.SyncNames (no_room path.now) (D.seen disk.old) result }
     ensures cause { HasDiskCause (D.seen disk.old) (D.seen disk.new) result }
@@ -102,7 +103,8 @@ fn write_record<D: Disk>(
 ) -> Result<(), DiskRefusal>
     ensures went { (story : Story) (batches : List Logged) (next : Logged) (durable : ℕ) → (D.seen disk.old).told ≡ Some story
         → bytes.now ≡ record_behind batches next → IsLogged next → (wal : IsWal (state_of story) path.now batches durable)
-        → Went story (D.seen disk.new).told (InFile wal.id) (HoldsFront path.now (batches ++ next ∷ []) durable) (IsLeft path.now batches next durable sync result) }
+        → Went story (D.seen disk.new).told (InFile wal.id) (HoldsFront path.now (batches ++ next ∷ []) durable)
+        (IsLeft path.now batches next durable sync result) }
     ensures refused { IfErr result (IsRefusedAt calls.Append calls.Sync path.now (D.seen disk.old) (D.seen disk.new)) }
     ensures asked { IfErr result (λ r. r.at.call ≡ calls.Sync → sync ≡ true) }
     ensures answer { AnswersAt calls.Sync (no_file path.now) (D.seen disk.old) result }
@@ -165,7 +167,8 @@ impl Wal {
         ensures went { (story : Story) (batches : List Logged) (durable : ℕ) → (D.seen disk.old).told ≡ Some story
             → self.old.len ≡ length (wal_text batches) → (wal : IsWal (state_of story) self.old.path batches durable)
             → let next : Logged = record { first = first; ops = batch.now } in
-            Went story (D.seen disk.new).told (InFile wal.id) (HoldsFront self.old.path (batches ++ next ∷ []) durable) (IsLeft self.old.path batches next durable sync result) }
+            Went story (D.seen disk.new).told (InFile wal.id) (HoldsFront self.old.path (batches ++ next ∷ []) durable)
+            (IsLeft self.old.path batches next durable sync result) }
 
         ensures refused { IfErr result (IsRefusedAt calls.Append calls.Sync self.old.path (D.seen disk.old) (D.seen disk.new)) }
         ensures asked { IfErr result (λ r. r.at.call ≡ calls.Sync → sync ≡ true) }

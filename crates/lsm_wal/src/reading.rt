@@ -107,7 +107,8 @@ fn read_all<V: View>(
 ) -> Result<Whole, WalWhy>
     requires some { 1 ≤ expected }
     requires start { reader.old.given ≡ 0 }
-    ensures read { IfOk result (λ whole. (text : List ℕ) → Tells reader.old.viewed text → IsReading expected text whole.batches (At_end (open_end whole.torn))) }
+    ensures read { IfOk result (λ whole. (text : List ℕ) → Tells reader.old.viewed text
+        → IsReading expected text whole.batches (At_end (open_end whole.torn))) }
     ensures lost { IfErr result (λ why. (text : List ℕ) → Tells reader.old.viewed text → IsTrouble expected text why) }
     ensures next { IfOk result (λ whole. whole.next ≡ sequence_after expected whole.batches) }
     ensures some { IfOk result (λ whole. 1 ≤ whole.next) }
@@ -141,7 +142,8 @@ pub fn read_wal<V: View>(alloc: Global, view: V, expected: u64) -> Result<WalRea
     requires { 1 ≤ expected }
 
     // Where the view tells its text, Ok tells all batches and how the text ends, and a refusal is its first trouble.
-    ensures read { IfOk result (λ log. (text : List ℕ) → Tells (V.viewed view) text → IsReading expected text log.batches (At_end (open_end log.torn))) }
+    ensures read { IfOk result (λ log. (text : List ℕ) → Tells (V.viewed view) text
+        → IsReading expected text log.batches (At_end (open_end log.torn))) }
     ensures trouble { IfErr result (λ error. (text : List ℕ) → Tells (V.viewed view) text → IsTrouble expected text error.why) }
 
     ensures last { IfOk result (λ log. log.last + 1 ≡ sequence_after expected log.batches) }

@@ -1,5 +1,6 @@
 //! Tests of the program: scripts and what it prints for them, its faults, what it leaves on its
-//! disks, and what a crash leaves of that. The calls are in `probe`, the scripts in `scripts`.
+//! disks, and what a crash leaves of that. The calls are in `probe`, the scripts in `scripts`, the
+//! words of command lines in `words`.
 #![tactic(auto)]
 
 #[cfg(test)]
@@ -8,3 +9,5 @@ mod probe;
 mod scripts;
 #[cfg(test)]
 mod tests;
+#[cfg(test)]
+mod words;

@@ -5,6 +5,7 @@ use crate::probe::{
     two_words, with_script,
 };
 use crate::scripts::{BACKUPS, BAD_LINES, BATCHES, EMPTY_AND_WRITES, Row, SCANS, WORDS};
+use crate::words::{ASKED, USAGE, all_ask, all_usage};
 use lsm_bytes::{Bytes, NoMemory};
 use lsm_memdisk::MemDisk;
 use std::alloc::Global;
@@ -321,4 +322,14 @@ fn words_that_are_no_command_get_the_usage_line(rt: HostRuntime) {
         usage_for(&rt, alloc, two_words(alloc, "script", "more")),
     );
     sure(&rt, usage_for(&rt, alloc, one_word(alloc, "scripts")));
+}
+
+#[test]
+fn words_outside_the_grammar_are_refused(rt: HostRuntime) {
+    sure(&rt, all_usage(rt.alloc(), USAGE));
+}
+
+#[test]
+fn words_in_the_grammar_are_read(rt: HostRuntime) {
+    sure(&rt, all_ask(rt.alloc(), ASKED));
 }

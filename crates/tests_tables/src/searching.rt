@@ -6,8 +6,8 @@ use crate::keys::key;
 use crate::numbered::{
     MOST, are_numbered, is_deleted, is_numbered, numbered_key, numbered_sequence, table_of,
 };
-use crate::table::get;
-use crate::views::TextView;
+use crate::table::{blocks, get, nth_block, rows_in};
+use crate::views::{TextView, opened, put_byte};
 use lsm_block::Block;
 use lsm_rows::{InternalKey, Kind, Row, Rows};
 use lsm_table::{Table, TableFault, row_of};
@@ -194,6 +194,51 @@ fn is_gone_through(
     Ok(false)
 }
 
+// The number of rows of the data block of this number, which are those from this one on; None where they aren't.
+fn len_of_block(
+    alloc: Global,
+    table: &mut Table<TextView>,
+    nth: usize,
+    number: u32,
+) -> Result<Option<u32>, Stopped> {
+    let rows = rows_in(alloc, &nth_block(table, nth)?)?;
+    let Ok(len) = u32::try_from(rows.len()) else {
+        return Ok(None);
+    };
+    if are_numbered(&rows, number, len) {
+        Ok(Some(len))
+    } else {
+        Ok(None)
+    }
+}
+
+// Whether the data blocks, of which there are many, give all rows in turn.
+fn blocks_give_the_rows(alloc: Global) -> Result<bool, Stopped> {
+    let mut table = table_of(alloc, COUNT)?;
+    let mut number = 0u32;
+    for nth in 0..blocks(&table) {
+        let Some(len) = len_of_block(alloc, &mut table, nth, number)? else {
+            return Ok(false);
+        };
+        number = number.saturating_add(len);
+    }
+    Ok(number == COUNT && blocks(&table) > 10)
+}
+
+// The table of all rows, whose first data block has another byte in its first key.
+fn damaged(alloc: Global) -> Result<Table<TextView>, Stopped> {
+    let mut view = table_of(alloc, COUNT)?.into_view();
+    put_byte(&mut view.bytes, 3, 7);
+    opened(alloc, view)
+}
+
+// Whether the block behind a damaged one has its rows.
+fn the_next_is_whole(alloc: Global) -> Result<bool, Stopped> {
+    let mut table = damaged(alloc)?;
+    let is_damaged = nth_block(&mut table, 0).is_err();
+    Ok(is_damaged && !rows_in(alloc, &nth_block(&mut table, 1)?)?.is_empty())
+}
+
 fn no_run_is_empty(table: &mut Table<TextView>) -> Result<bool, Stopped> {
     Ok(first_rows(table, 0)?.is_empty())
 }
@@ -248,6 +293,16 @@ fn each_of_ten_thousand_rows_is_found(rt: HostRuntime) {
 #[test]
 fn runs_of_any_length_give_the_rows_in_turn(rt: HostRuntime) {
     sure(&rt, runs_give_the_rows(rt.alloc()));
+}
+
+#[test]
+fn the_data_blocks_give_the_rows_in_turn(rt: HostRuntime) {
+    sure(&rt, blocks_give_the_rows(rt.alloc()));
+}
+
+#[test]
+fn a_damaged_block_hides_no_other(rt: HostRuntime) {
+    sure(&rt, the_next_is_whole(rt.alloc()));
 }
 
 #[test]

@@ -7,9 +7,9 @@ use crate::rows::has_value;
 use crate::views::{ONE_TABLE, TextView, changed, opened, refusal, session};
 use lsm_block::Block;
 use lsm_bytes::{Bytes, NoMemory};
-use lsm_rows::Row;
+use lsm_rows::{Row, Rows};
 use lsm_table::{
-    Finished, Properties, Table, TableBuilder, TableError, TableFault, Tables, row_of,
+    Finished, Properties, Table, TableBuilder, TableError, TableFault, Tables, row_of, rows_of,
 };
 use std::alloc::Global;
 
@@ -103,6 +103,19 @@ fn has_rows_of_its_keys(alloc: Global) -> Result<bool, Stopped> {
     )
 }
 
+fn has_rows_in_turn(alloc: Global) -> Result<bool, Stopped> {
+    let rows = rows_in(alloc, &parsed(alloc, DELETE_AND_PUT)?)?;
+    Ok(rows.len() == 2 && is_at(&rows, 0, 2, None) && is_at(&rows, 1, 1, Some(b"x")))
+}
+
+// Whether the row at a place has this sequence and this value.
+fn is_at(rows: &Rows, place: usize, sequence: u64, value: Option<&[u8]>) -> bool {
+    match rows.as_slice().get(place) {
+        Some(row) => row.sequence == sequence && has_value(row, value),
+        None => false,
+    }
+}
+
 /// How many bytes of the table of one row are there; which of them are others; and what is wrong then.
 type Change = (usize, &'static [(usize, u8)], TableFault);
 
@@ -119,7 +132,8 @@ const CHANGES: &[Change] = &[
     (130, &[(39, 149), (49, 56), (50, 149), (51, 109), (52, 109)], TableFault::Malformed { place: 26 }),
     (130, &[(89, 1)], TableFault::Malformed { place: 53 }),
     (130, &[(53, 5)], TableFault::Damaged { place: 53, kept: 875568618, found: 359381168 }),
-    (130, &[(71, 97), (72, 98), (73, 99), (74, 100), (75, 101), (76, 102), (77, 103), (78, 104), (79, 105), (80, 106), (90, 170), (91, 35), (92, 179), (93, 246)], TableFault::Malformed { place: 53 }),
+    (130, &[(71, 97), (72, 98), (73, 99), (74, 100), (75, 101), (76, 102), (77, 103), (78, 104), (79, 105), (80, 106),
+        (90, 170), (91, 35), (92, 179), (93, 246)], TableFault::Malformed { place: 53 }),
 ];
 
 fn is_refused(alloc: Global, change: &Change) -> Result<bool, Stopped> {
@@ -158,6 +172,32 @@ pub fn get(table: &mut Table<TextView>, key: &[u8]) -> Result<Option<Row>, Table
     table.get(key)
 }
 
+/// The number of a table's data blocks.
+pub fn blocks(table: &Table<TextView>) -> usize {
+    table.blocks()
+}
+
+/// The data block of this number in a table's index.
+pub fn nth_block(table: &mut Table<TextView>, nth: usize) -> Result<Block, Stopped> {
+    if nth >= table.blocks() {
+        return Err(Stopped);
+    }
+    Ok(table.nth_block(nth)?)
+}
+
+// What is wrong with the first data block.
+fn first_fault(table: &mut Table<TextView>) -> Option<TableFault> {
+    if table.blocks() == 0 {
+        return None;
+    }
+    table.nth_block(0).err()
+}
+
+/// The rows of a block, in their order.
+pub fn rows_in(alloc: Global, block: &Block) -> Result<Rows, NoMemory> {
+    rows_of(alloc, block)
+}
+
 fn properties(table: &Table<TextView>) -> Properties {
     table.properties()
 }
@@ -167,7 +207,8 @@ fn is_met(alloc: Global, byte: u8, fault: Option<TableFault>) -> Result<bool, St
     let mut table = opened(alloc, changed(alloc, 130, &[(3, byte)])?)?;
     let is_located = locate(&table, b"a") == Some(0);
     let is_block = block_fault(&mut table, 0) == fault;
-    Ok(is_located && is_block && get(&mut table, b"a").err() == fault)
+    let is_first = blocks(&table) == 1 && first_fault(&mut table) == fault;
+    Ok(is_located && is_block && is_first && get(&mut table, b"a").err() == fault)
 }
 
 /// What is wrong with the data block of the table of one row, where its key is `b` in place of `a`.
@@ -233,6 +274,11 @@ fn one_row_has_a_table_of_130_bytes(rt: HostRuntime) {
 #[test]
 fn a_block_has_rows_of_its_keys_alone(rt: HostRuntime) {
     sure(&rt, has_rows_of_its_keys(rt.alloc()));
+}
+
+#[test]
+fn a_block_has_its_rows_in_turn(rt: HostRuntime) {
+    sure(&rt, has_rows_in_turn(rt.alloc()));
 }
 
 #[test]

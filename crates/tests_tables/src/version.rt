@@ -5,7 +5,7 @@ use crate::views::session;
 use lsm_bytes::Bytes;
 use lsm_rows::Kind;
 use lsm_version::{
-    Add, Adds, ApplyError, Edit, EditError, Place, Places, TableInfo, Version, decode_edit,
+    Add, Adds, ApplyError, Drops, Edit, EditError, Inputs, Place, TableInfo, Version, decode_edit,
     encode_edit,
 };
 use std::alloc::Global;
@@ -37,7 +37,7 @@ fn nothing(alloc: Global) -> Edit {
         next: None,
         last: None,
         adds: Adds::new(alloc),
-        drops: Places::new(alloc),
+        drops: Drops::new(alloc),
     }
 }
 
@@ -250,6 +250,75 @@ fn an_overlap_is_refused(alloc: Global) -> Result<bool, Stopped> {
     Ok(refusal(first_version(alloc, &edit)) == Some(wanted))
 }
 
+// An edit that adds four tables at three levels, not in their order.
+fn spread(alloc: Global) -> Result<Edit, Stopped> {
+    let mut edit = adding(alloc, 6, table(alloc, 2, b"a", b"z")?)?;
+    add(&mut edit, 0, table(alloc, 7, b"a", b"c")?)?;
+    add(&mut edit, 1, table(alloc, 5, b"a", b"c")?)?;
+    add(&mut edit, 0, table(alloc, 3, b"a", b"c")?)?;
+    Ok(edit)
+}
+
+fn spread_version(alloc: Global) -> Result<Version, Stopped> {
+    let edit = spread(alloc)?;
+    Ok(first_version(alloc, &edit)?)
+}
+
+fn is_place(inputs: &Inputs, at: usize, level: u8, number: u64) -> bool {
+    match inputs.as_slice().get(at) {
+        Some(place) => *place == Place { level, number },
+        None => false,
+    }
+}
+
+fn all_places(alloc: Global, version: &Version) -> Result<Inputs, Stopped> {
+    Ok(version.places(alloc)?)
+}
+
+fn places_of_level(alloc: Global, version: &Version, level: u8) -> Result<Inputs, Stopped> {
+    Ok(version.level_places(alloc, level)?)
+}
+
+fn searched(alloc: Global, version: &Version) -> Result<Inputs, Stopped> {
+    Ok(version.search_order(alloc)?)
+}
+
+fn places_go_by_level_and_number(alloc: Global) -> Result<bool, Stopped> {
+    let version = spread_version(alloc)?;
+    let all = all_places(alloc, &version)?;
+    Ok(
+        all.len() == 4
+            && is_place(&all, 0, 0, 3)
+            && is_place(&all, 1, 0, 7)
+            && is_place(&all, 2, 1, 5)
+            && is_place(&all, 3, 6, 2),
+    )
+}
+
+fn newest_tables_are_searched_first(alloc: Global) -> Result<bool, Stopped> {
+    let version = spread_version(alloc)?;
+    let order = searched(alloc, &version)?;
+    Ok(
+        order.len() == 4
+            && is_place(&order, 0, 0, 7)
+            && is_place(&order, 1, 0, 3)
+            && is_place(&order, 2, 1, 5)
+            && is_place(&order, 3, 6, 2),
+    )
+}
+
+fn a_level_has_its_own(alloc: Global) -> Result<bool, Stopped> {
+    let version = spread_version(alloc)?;
+    let zeroth = places_of_level(alloc, &version, 0)?;
+    let third = places_of_level(alloc, &version, 3)?;
+    Ok(
+        zeroth.len() == 2
+            && is_place(&zeroth, 0, 0, 3)
+            && is_place(&zeroth, 1, 0, 7)
+            && third.is_empty(),
+    )
+}
+
 #[test]
 fn the_first_edit_has_these_bytes(rt: HostRuntime) {
     sure(&rt, the_first_has_six_bytes(rt.alloc()));
@@ -294,4 +363,19 @@ fn a_table_is_copied(rt: HostRuntime) {
 #[test]
 fn a_version_counts_its_tables(rt: HostRuntime) {
     sure(&rt, versions_count_their_tables(rt.alloc()));
+}
+
+#[test]
+fn places_ascend_by_level_and_number(rt: HostRuntime) {
+    sure(&rt, places_go_by_level_and_number(rt.alloc()));
+}
+
+#[test]
+fn a_search_begins_with_the_newest_table(rt: HostRuntime) {
+    sure(&rt, newest_tables_are_searched_first(rt.alloc()));
+}
+
+#[test]
+fn a_level_has_its_own_places(rt: HostRuntime) {
+    sure(&rt, a_level_has_its_own(rt.alloc()));
 }

@@ -75,7 +75,8 @@ pub fn changed(alloc: Global, len: usize, changes: &[(usize, u8)]) -> Result<Tex
     Ok(view)
 }
 
-fn put_byte(bytes: &mut Vec<u8>, place: usize, byte: u8) {
+/// Puts another byte at a place, if there is one.
+pub fn put_byte(bytes: &mut Vec<u8>, place: usize, byte: u8) {
     if let Some(there) = bytes.get_mut(place) {
         *there = byte;
     }

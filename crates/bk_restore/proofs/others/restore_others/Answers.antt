@@ -11,9 +11,9 @@ use Rattle.bk_restore.specs.Refusals.{IsPastBegin}
 use Rattle.bk_restore.specs.Wrong.{others, IsToldFirst}
 use Rattle.bk_restore.specs.Restored.{AreRestored, begun_with}
 use Rattle.bk_restore.proofs.Causes.{later_same, later_trans, causes_ok, causes_within, returned, returned_as}
-use Rattle.bk_restore.proofs.Names.{cut_files}
 use Rattle.bk_restore.proofs.Going.{Going, going_starts, going_goes, going_stops, going_forgets, next_is_new, others_cut, take_next, first_told}
 use Rattle.bk_restore.proofs.others.restore_others.Goals as goal
+use Rattle.bk_meta.proofs.SetLemmas.{cut_files}
 
 pub loop-file-init : goal.loop-file-init
 loop-file-init g c = record {

@@ -55,8 +55,8 @@ returns-in-Err-clause-went g c start story begun parts tells ready is =
     let restored = sole_restored id told files file (part_of (Private Current) text) c.current_of-file.ensures.only
     (text_is_right id told file (Private Current) (crc32c text) text c.current_of-file.ensures.named c.in_ok-text.ensures.read c.in_ok-text.ensures.right) in
     subst (λ (e : RestoreError). Ended id told files start begun.folder parts story now (Err e)) (sym (c.dest_refused.ensures []))
-    (finish_refused id told files start begun.folder parts text restored c.in-Err.why
-    (subst (λ (bytes : List ℕ). Finished id told files start begun.folder parts bytes story now (Err c.in-Err.why)) c.as_slice.ensures (c.in-Err.ensures.went start story begun parts tells ready.begun_is is)))
+    (finish_refused id told files start begun parts text restored c.in-Err.why
+    (subst (λ (bytes : List ℕ). Finished id told files start begun parts bytes story now (Err c.in-Err.why)) c.as_slice.ensures (c.in-Err.ensures.went start story begun parts tells ready.begun_is is)))
 
 pub returns-in-Err-clause-wrong : goal.returns-in-Err-clause-wrong
 returns-in-Err-clause-wrong g c =
@@ -91,8 +91,8 @@ returns-clause-went g c start story begun parts tells ready is =
     let now = (g.T.Dest.seen c.finish.new.self).disk.told in
     let restored = sole_restored id told files file (part_of (Private Current) text) c.current_of-file.ensures.only
     (text_is_right id told file (Private Current) (crc32c text) text c.current_of-file.ensures.named c.in_ok-text.ensures.read c.in_ok-text.ensures.right) in
-    finish_done id told files start begun.folder parts text restored
-    (subst (λ (bytes : List ℕ). Finished id told files start begun.folder parts bytes story now (Ok tt)) c.as_slice.ensures (c.in_default.ensures.went start story begun parts tells ready.begun_is is))
+    finish_done id told files start begun parts text restored
+    (subst (λ (bytes : List ℕ). Finished id told files start begun parts bytes story now (Ok tt)) c.as_slice.ensures (c.in_default.ensures.went start story begun parts tells ready.begun_is is))
 
 pub returns-clause-restored : goal.returns-clause-restored
 returns-clause-restored g c =

@@ -9,8 +9,9 @@ use Rattle.lsm_recover.specs.declared.errors.FolderError.{FolderError}
 use Rattle.lsm_recover.specs.declared.errors.FolderError.TheVariants.{Malformed}
 use Rattle.lsm_recover.specs.Answers.{IsRefusedBy}
 use Rattle.lsm_recover.specs.Causes.{HasRisenIn}
-use Rattle.lsm_recover.proofs.ManifestLemmas.{reads_begun, end_answer, end_small, end_risen, malformed, stays_both, frame_refused, frame_risen}
+use Rattle.lsm_recover.proofs.ManifestLemmas.{reads_begun, end_answer, end_small, end_risen, malformed, frame_refused, frame_risen}
 use Rattle.lsm_recover.proofs.manifest.read_edits.Goals as goal
+use Rattle.lsm_frame.proofs.Going.{stays_trans}
 
 pub loop-text-init : goal.loop-text-init
 loop-text-init g c = reads_begun c.args.name c.args.reader.now c.requires
@@ -24,7 +25,7 @@ loop-text-preserved g c =
     let edit = c.in_ok-read_edit-in-Ok-Record.ensures.version in
     let same : c.as_slice.result.now ≡ c.in-Ok-Record.text = c.as_slice.ensures ∙ c.in-Ok-Record.text-is in
     record {
-      stays = stays_both start.viewed c.loop-text.reader.viewed c.next.new.self.viewed before.stays c.in-Ok-Record.ensures.view;
+      stays = stays_trans start.viewed c.loop-text.reader.viewed c.next.new.self.viewed before.stays c.in-Ok-Record.ensures.view;
       read = λ text tells.
           let here = still_tells text start.viewed c.loop-text.reader.viewed tells before.stays in
           let stands = next_record c.args.name text given c.in-Ok-Record.field-0 c.next.new.self.place c.in-Ok-Record.text c.in-Ok-Record.field-0-is (c.in-Ok-Record.ensures.record text here) in
@@ -59,7 +60,7 @@ pub returns-in-Ok-End-clause-small : goal.returns-in-Ok-End-clause-small
 returns-in-Ok-End-clause-small g c = end_small c.loop-text.version c.some_version.result c.loop-text.invariant.small c.some_version.ensures.version
 
 pub returns-in-Ok-End-clause-view : goal.returns-in-Ok-End-clause-view
-returns-in-Ok-End-clause-view g c = stays_both c.args.reader.now.viewed c.loop-text.reader.viewed c.next.new.self.viewed c.loop-text.invariant.stays c.in-Ok-End.ensures.view
+returns-in-Ok-End-clause-view g c = stays_trans c.args.reader.now.viewed c.loop-text.reader.viewed c.next.new.self.viewed c.loop-text.invariant.stays c.in-Ok-End.ensures.view
 
 pub returns-in-Ok-End-clause-cause : goal.returns-in-Ok-End-clause-cause
 returns-in-Ok-End-clause-cause g c = end_risen c.args.name c.loop-text.version c.args.reader.now.viewed c.next.new.self.viewed c.some_version.result c.some_version.ensures.refused
@@ -75,7 +76,7 @@ pub returns-in-Ok-Torn-clause-small : goal.returns-in-Ok-Torn-clause-small
 returns-in-Ok-Torn-clause-small g c = end_small c.loop-text.version c.some_version-in-Ok-Torn.result c.loop-text.invariant.small c.some_version-in-Ok-Torn.ensures.version
 
 pub returns-in-Ok-Torn-clause-view : goal.returns-in-Ok-Torn-clause-view
-returns-in-Ok-Torn-clause-view g c = stays_both c.args.reader.now.viewed c.loop-text.reader.viewed c.next.new.self.viewed c.loop-text.invariant.stays c.in-Ok-Torn.ensures.view
+returns-in-Ok-Torn-clause-view g c = stays_trans c.args.reader.now.viewed c.loop-text.reader.viewed c.next.new.self.viewed c.loop-text.invariant.stays c.in-Ok-Torn.ensures.view
 
 pub returns-in-Ok-Torn-clause-cause : goal.returns-in-Ok-Torn-clause-cause
 returns-in-Ok-Torn-clause-cause g c = end_risen c.args.name c.loop-text.version c.args.reader.now.viewed c.next.new.self.viewed c.some_version-in-Ok-Torn.result c.some_version-in-Ok-Torn.ensures.refused
@@ -88,7 +89,7 @@ returns-in-Err-clause-answer g c = λ text tells.
     (frame_refused c.args.name text c.loop-text.reader.given c.loop-text.version c.in-Err.error (before.read text tells) (c.in-Err.ensures.end text here))
 
 pub returns-in-Err-clause-view : goal.returns-in-Err-clause-view
-returns-in-Err-clause-view g c = stays_both c.args.reader.now.viewed c.loop-text.reader.viewed c.next.new.self.viewed c.loop-text.invariant.stays c.in-Err.ensures.view
+returns-in-Err-clause-view g c = stays_trans c.args.reader.now.viewed c.loop-text.reader.viewed c.next.new.self.viewed c.loop-text.invariant.stays c.in-Err.ensures.view
 
 pub returns-in-Err-clause-cause : goal.returns-in-Err-clause-cause
 returns-in-Err-clause-cause g c =

@@ -8,7 +8,7 @@ use Rattle.lsm_table.specs.Opening.{IsOutside}
 use Rattle.lsm_table.specs.Rows.{AreOfBlocks}
 use Rattle.lsm_table.specs.declared.faults.TableFault.TheVariants.{NoMemory}
 use Rattle.lsm_table.proofs.Openings.{by_fault}
-use Rattle.lsm_table.proofs.RowRuns.{IsRun, run_start, run_more, run_all, run_full, run_refused, keys_taken, memory_outside}
+use Rattle.lsm_table.proofs.RowRuns.{IsRun, run_start, run_more, run_all, run_full, run_refused, keys_taken, memory_outside, block_read, fault_read}
 use Rattle.lsm_table.proofs.rows.read_rows.Goals as goal
 
 pub loop-entry-init : goal.loop-entry-init
@@ -27,7 +27,7 @@ returns-in_err-block-clause-err g c =
     let v = g.V.View.viewed c.args.view.now in
     by_fault (λ e. (text : List ℕ) (blocks : List (List Entry)) → Tells v text → AreOfBlocks text c.args.index.now blocks → IsOutside e) c.from_residual.result c.in_err-block.field-0.0 c.from_residual.ensures.1
     (run_refused v (g.V.View.viewed c.loop-entry.view) c.args.index.now (option_map (λ k. k.now) c.args.after) c.args.count c.loop-entry.entry-index c.entry-item.result c.loop-entry.rows c.in_err-block.field-0.0 c.loop-entry.invariant
-    c.loop-entry-test.true c.entry-item.is c.in_err-block.ensures.err)
+    c.loop-entry-test.true c.entry-item.is (fault_read (g.V.View.viewed c.loop-entry.view) c.entry-item.result c.in_err-block.field-0.0 c.in_err-block.ensures.err))
 
 pub push_rows-requires : goal.push_rows-requires
 push_rows-requires g c =
@@ -46,7 +46,7 @@ loop-entry-preserved g c =
     let u = g.V.View.viewed c.read_told.new.view in
     let after = option_map (λ k. k.now) c.args.after in
     run_more v w u c.args.index.now after c.args.count c.loop-entry.entry-index (c.args.count - c.len.result) c.entry-item.result c.loop-entry.rows c.push_rows.new.rows c.in_ok-block.block c.entries.result.now
-    c.first_after.result.now c.loop-entry.invariant c.loop-entry-test.true c.entry-item.is c.in_ok-block.ensures.view (ap (λ (n : ℕ). c.args.count - n) c.len.ensures.len) c.in_ok-block.ensures.ok c.entries.ensures.entries
+    c.first_after.result.now c.loop-entry.invariant c.loop-entry-test.true c.entry-item.is c.in_ok-block.ensures.view (ap (λ (n : ℕ). c.args.count - n) c.len.ensures.len) (block_read w c.entry-item.result c.in_ok-block.block c.in_ok-block.ensures.ok) c.entries.ensures.entries
     c.first_after.ensures c.in_ok-push_rows.ensures
 
 pub returns-clause-ok : goal.returns-clause-ok
