@@ -1,3 +1,4 @@
+pub mod AmongLemmas
 pub mod BesideLemmas
 pub mod CauseLemmas
 pub mod ChangeLemmas
@@ -5,6 +6,7 @@ pub mod CrashLemmas
 pub mod CutLemmas
 pub mod CutSteps
 pub mod DeleteSteps
+pub mod EditedLemmas
 pub mod FileLemmas
 pub mod FolderDisks
 pub mod FolderStores
@@ -47,11 +49,15 @@ pub mod RolledLemmas
 pub mod SettledLemmas
 pub mod ShownLemmas
 pub mod SyncedLemmas
+pub mod SwitchedLemmas
 pub mod TiedLemmas
 pub mod UnchangedLemmas
 pub mod UnneededLemmas
 pub mod UnpinSteps
 pub mod ViewLemmas
+pub mod WithinLemmas
+pub mod WithinRuns
+pub mod WithinStores
 pub mod WitnessDisk
 pub mod WitnessGood
 pub mod WitnessLemmas

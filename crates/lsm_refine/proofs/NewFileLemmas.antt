@@ -60,7 +60,7 @@ module _ (dir : List ℕ) (name : FileName) (named : is_folder_name dir ≡ true
       at = changes_both path start x (after x (Appended first more)) makes.at (other_written_at path x first elsewhere (Appended first more) refl);
       lead = lead_in x (longer more) first makes.lead;
       only = makes.only;
-      inside = inside_both dir start x (after x (Appended first more)) makes.inside (append_inside x dir first more outside);
+      inside = inside_both dir start x (after x (Appended first more)) makes.inside (append_inside x dir first more (λ k name n ok other is. outside k name n other is));
     })
     makes_more (Synced k) kind = subst (λ (id : ℕ). MakesAt dir name start (after x (Synced id))) (sym kind) (record {
       at = changes_both path start x (after x (Synced first)) makes.at (other_written_at path x first elsewhere (Synced first) refl);

@@ -44,7 +44,7 @@ use Rattle.lsm_refine.proofs.PinnedLemmas.{pins_fit, pins_both}
 
 -- ---- paths with one slash
 
-parts_false : (a b : Bool) → (a || b) ≡ false → (a ≡ false) × (b ≡ false)
+pub parts_false : (a b : Bool) → (a || b) ≡ false → (a ≡ false) × (b ≡ false)
 parts_false true b is = absurd (cc)
 parts_false false b is = (refl, is)
 
@@ -54,13 +54,13 @@ bytes_flat (byte ∷ part) are =
     let parts = and_parts (is_component_byte byte) (list_all is_component_byte part) are in
     ap (λ (b : Bool). b || has_slash part) (no_slash_byte byte parts.0) ∙ bytes_flat part parts.1
 
-flat : (part : List ℕ) → is_component part ≡ true → has_slash part ≡ false
+pub flat : (part : List ℕ) → is_component part ≡ true → has_slash part ≡ false
 flat part is = bytes_flat part (bytes_of_component part is)
 
-heads : (x y : ℕ) (xs ys : List ℕ) → x ∷ xs ≡ y ∷ ys → (x ≡ y) × (xs ≡ ys)
+pub heads : (x y : ℕ) (xs ys : List ℕ) → x ∷ xs ≡ y ∷ ys → (x ≡ y) × (xs ≡ ys)
 heads x y xs ys same = (cc, ap (λ (l : List ℕ). drop 1 l) same)
 
-slash_is : (y : ℕ) → 47 ≡ y → (y == 47) ≡ false → ⊥
+pub slash_is : (y : ℕ) → 47 ≡ y → (y == 47) ≡ false → ⊥
 slash_is y same is = let clash : true ≡ false = ap (λ (n : ℕ). n == 47) same ∙ is in cc
 
 -- a text with one slash is cut there alone
@@ -81,7 +81,7 @@ no_dot : list_all is_folder_byte (codes ".tmp") ≡ true → ⊥
 unfolding is_folder_byte is_small_letter_or_digit
 no_dot are = let clash : false ≡ true = are in cc
 
-not_built : (dir job : List ℕ) → is_folder_name dir ≡ true → built_in job ≢ dir
+pub not_built : (dir job : List ℕ) → is_folder_name dir ≡ true → built_in job ≢ dir
 not_built dir job is same = no_dot (right_all job (codes ".tmp") (ap (list_all is_folder_byte) same ∙ bytes_of_folder dir is))
 
 part_fits : (name : FileName) → IsPartName name → IsFileName name
@@ -98,7 +98,7 @@ not_current (Manifest n) is same = cc
 not_current (Temp n) is same = cc
 not_current Current is same = is
 
-current_apart : (name : FileName) → IsPartName name → spelled Current ≢ spelled name
+pub current_apart : (name : FileName) → IsPartName name → spelled Current ≢ spelled name
 current_apart name is same = not_current name is (spelled_injective Current name tt (part_fits name is) same)
 
 -- ---- the frame

@@ -56,10 +56,10 @@ module _ (t u : Tree) (name : List ℕ) (some : 1 ≤ length name) (items : (fil
 -- ---- so the other folders read as they did
 
 module _ (own : List ℕ) (t u : Tree) (alike : AreAlikeOutside own t u) (name : List ℕ) (fits : is_folder_name name ≡ true) (other : name ≢ own) where
-  outside_reading : folder_reading name u ≡ folder_reading name t
+  pub outside_reading : folder_reading name u ≡ folder_reading name t
   outside_reading = reading_same t u name (folder_has_bytes name fits) (λ file is. alike.items name file fits other is) (alike.names name fits other)
 
-  outside_there : is_some (finmap.get u.names name) ≡ is_some (finmap.get t.names name)
+  pub outside_there : is_some (finmap.get u.names name) ≡ is_some (finmap.get t.names name)
   outside_there = ap is_some (alike.names name fits other)
 
 pub folders_alike : (own : List ℕ) (folders : List FolderRead) (t u : Tree) → AreAlikeOutside own t u → FoldersAre own folders t → FoldersAre own folders u
@@ -116,7 +116,7 @@ same_item bs cs id (Some Folder_node) other same = refl
 same_item bs cs id (Some (File_node k)) other same = ap (λ (o : Option (List ℕ)). Some (A_file (unwrap_or o []))) (same k (λ is. other (ap (λ (n : ℕ). Some (File_node n)) is)))
 
 module _ (d : disk.State) (own : List ℕ) (id : ℕ) (more : List ℕ)
-    (elsewhere : (k : ℕ) (name : List ℕ) (n : FileName) → name ≢ own → IsFileName n → finmap.get (all_named (take k d.pending) d.durable) (path_in name n) ≢ Some (File_node id)) where
+    (elsewhere : (k : ℕ) (name : List ℕ) (n : FileName) → is_folder_name name ≡ true → name ≢ own → IsFileName n → finmap.get (all_named (take k d.pending) d.durable) (path_in name n) ≢ Some (File_node id)) where
   abbrev later : disk.State
   later = after d (Appended id more)
 
@@ -125,7 +125,7 @@ module _ (d : disk.State) (own : List ℕ) (id : ℕ) (more : List ℕ)
   alike_by k names bs cs is same = record {
     names = λ name ok other. refl;
     items = λ name n ok other named. same_item bs cs id (finmap.get names (path_in name n))
-        (λ leads. elsewhere k name n other named (ap (λ (m : Names). finmap.get m (path_in name n)) (sym is) ∙ leads)) same;
+        (λ leads. elsewhere k name n ok other named (ap (λ (m : Names). finmap.get m (path_in name n)) (sym is) ∙ leads)) same;
   }
 
   pub append_inside : ChangesInside own d later
@@ -233,7 +233,7 @@ module _ (own : List ℕ) (d : disk.State) where
   change_inside (Created path) spares inside = created_inside path spares
   change_inside (Named op) spares inside = named_inside op spares
   change_inside (Appended id more) spares inside = append_inside d own id more
-      (λ k name n other is leads. other (same_folder name own n inside.0 is inside.1 (inside.3.only id k (path_in name n) inside.2 leads)))
+      (λ k name n ok other is leads. other (same_folder name own n inside.0 is inside.1 (inside.3.only id k (path_in name n) inside.2 leads)))
   change_inside (Synced id) spares inside = synced_inside id
   change_inside Names_synced spares inside = record { now = alike_itself own (tree_now d); images = λ u i. (u, names_synced_image d u i, alike_itself own u) }
   change_inside Idle spares inside = record { now = alike_itself own (tree_now d); images = λ u i. (u, i, alike_itself own u) }

@@ -33,12 +33,12 @@ use Rattle.lsm_refine.proofs.TiedLemmas.{logged_many}
 
 -- ---- names of logs and of tables
 
-abbrev last_byte : List ℕ → ℕ
+abbrev pub last_byte : List ℕ → ℕ
 last_byte [] = 0
 last_byte (x ∷ []) = x
 last_byte (x ∷ y ∷ ys) = last_byte (y ∷ ys)
 
-last_byte-append : (xs : List ℕ) (y : ℕ) (ys : List ℕ) → last_byte (xs ++ y ∷ ys) ≡ last_byte (y ∷ ys)
+pub last_byte-append : (xs : List ℕ) (y : ℕ) (ys : List ℕ) → last_byte (xs ++ y ∷ ys) ≡ last_byte (y ∷ ys)
 last_byte-append [] y ys = refl
 last_byte-append (x ∷ []) y ys = refl
 last_byte-append (x ∷ w ∷ xs) y ys = last_byte-append (w ∷ xs) y ys

@@ -1,8 +1,10 @@
+pub mod Among
 pub mod Beside
 pub mod Calls
 pub mod Caused
 pub mod Codes
 pub mod Disks
+pub mod Edited
 pub mod Folders
 pub mod Fronts
 pub mod Good
@@ -22,4 +24,5 @@ pub mod Refused
 pub mod Sane
 pub mod Settled
 pub mod Tied
+pub mod Within
 pub mod Witness

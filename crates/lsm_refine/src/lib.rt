@@ -4,9 +4,11 @@
 
 mod call_laws;
 mod cause_laws;
+mod edit_laws;
 mod frame_laws;
 mod laws;
 mod life_laws;
+mod within_laws;
 
 pub use call_laws::{
     a_cut_pins_its_files, a_removed_file_isnt_missed, disables_are_counted, pins_are_read,
@@ -15,6 +17,10 @@ pub use call_laws::{
 pub use cause_laws::{
     a_cut_names_files_that_stand, every_refusal_has_its_cause_on_every_disk, listed_files_stand,
     no_count_falls,
+};
+pub use edit_laws::{
+    a_new_manifest_is_kept, an_appended_edit_is_kept, changes_at_a_few_names,
+    files_of_other_names_stay,
 };
 pub use frame_laws::{
     a_file_that_is_not_needed_shows_nothing, a_good_store_runs, a_synced_log_is_durable,
@@ -36,4 +42,8 @@ pub use life_laws::{
     a_store_with_something_in_each_place_is_good, an_opening_cut_off_leaves_the_same,
     an_opening_may_have_nothing_to_do, an_opening_that_keeps_its_folder_loses_nothing,
     lives_lead_on, what_a_crash_left_opens_again,
+};
+pub use within_laws::{
+    a_restores_folder_is_one_part, changes_within_a_folder, folders_beside_read_as_before,
+    pins_and_checkpoints_stay, the_stores_own_folder_stays,
 };
