@@ -26,6 +26,7 @@ pub mod ListedLogs
 pub mod LivesLemmas
 pub mod LogLemmas
 pub mod MomentLemmas
+pub mod MoveLemmas
 pub mod NeededLemmas
 pub mod NewDiskLemmas
 pub mod NewFileLemmas

@@ -31,7 +31,7 @@ same_bytes : (d : State) (path old : List ℕ) → bytes_at (tree_now d) path �
 same_bytes d path old is = ([], is ∙ ap Some (sym (append-nil old)))
 
 module _ (d : State) (path old : List ℕ) where
-  named_bytes : (op : NameOp) → OpSpares path op → bytes_at (tree_now (after d (Named op))) path ≡ bytes_at (tree_now d) path
+  pub named_bytes : (op : NameOp) → OpSpares path op → bytes_at (tree_now (after d (Named op))) path ≡ bytes_at (tree_now d) path
   named_bytes op spares =
       ap (λ (names : Names). bytes_by (id_of (finmap.get names path)) (tree_now (after d (Named op)))) (names_after d op)
       ∙ ap (λ (node : Option Node). bytes_by (id_of node) (tree_now (after d (Named op)))) (get_spared path op (names_now d) spares)

@@ -26,10 +26,10 @@ use Rattle.lsm_refine.proofs.NeededLemmas.{node_is, alone_stays}
 -- ---- where a file's name came from
 
 -- the name that led to the file before an operation within the folder: this one, or one in the folder
-record CameFrom (folder : List ℕ) (names : Names) (path : List ℕ) (id : ℕ) : Type 0 where
-  from : List ℕ
-  leads : finmap.get names from ≡ Some (File_node id)
-  is : (from ≡ path) ⊎ (is_in folder from ≡ true)
+pub record CameFrom (folder : List ℕ) (names : Names) (path : List ℕ) (id : ℕ) : Type 0 where
+  pub from : List ℕ
+  pub leads : finmap.get names from ≡ Some (File_node id)
+  pub is : (from ≡ path) ⊎ (is_in folder from ≡ true)
 
 -- a name that is found among moved ones was found under another key
 record WasKey (from to path : List ℕ) (es : List (List ℕ × Node)) (node : Node) : Type 0 where
@@ -81,7 +81,7 @@ module _ (folder : List ℕ) (names : Names) (path : List ℕ) (id : ℕ) where
       (λ differs. same_name (sym (get_gone_other names path other differs) ∙ leads))
       (path_cases path other)
 
-  from_move : (from to : List ℕ) (node : Option Node) → is_in folder from ≡ true → finmap.get names from ≡ node → finmap.get (renamed from to node names) path ≡ Some (File_node id) → CameFrom folder names path id
+  pub from_move : (from to : List ℕ) (node : Option Node) → is_in folder from ≡ true → finmap.get names from ≡ node → finmap.get (renamed from to node names) path ≡ Some (File_node id) → CameFrom folder names path id
   from_move from to None inside there leads = same_name leads
   from_move from to (Some (File_node k)) inside there leads = ⊎_elim
       (λ same. record {

@@ -36,7 +36,7 @@ use Rattle.lsm_refine.proofs.OtherFileLemmas.{flat, parts_false, heads, slash_is
 -- ---- paths outside a folder
 
 -- where two names have no slash, the first slash is behind each
-first_slash : (xs ys a b : List ℕ) → has_slash xs ≡ false → has_slash ys ≡ false → xs ++ 47 ∷ a ≡ ys ++ 47 ∷ b → xs ≡ ys
+pub first_slash : (xs ys a b : List ℕ) → has_slash xs ≡ false → has_slash ys ≡ false → xs ++ 47 ∷ a ≡ ys ++ 47 ∷ b → xs ≡ ys
 first_slash [] [] a b one two same = refl
 first_slash [] (y ∷ ys) a b one two same = absurd (slash_is y (heads 47 y a (ys ++ 47 ∷ b) same).0 (parts_false (y == 47) (has_slash ys) two).0)
 first_slash (x ∷ xs) [] a b one two same = absurd (slash_is x (sym (heads x 47 (xs ++ 47 ∷ a) b same).0) (parts_false (x == 47) (has_slash xs) one).0)
@@ -46,10 +46,10 @@ first_slash (x ∷ xs) (y ∷ ys) a b one two same =
     ∙ ap (λ (l : List ℕ). y ∷ l) (first_slash xs ys a b (parts_false (x == 47) (has_slash xs) one).1 (parts_false (y == 47) (has_slash ys) two).1 rest.1)
 
 -- what is in a folder is the folder or a path inside
-record IsInside (folder path : List ℕ) : Type 0 where
-  is : (path ≡ folder) ⊎ ((rest : List ℕ) × (path ≡ folder ++ 47 ∷ rest))
+pub record IsInside (folder path : List ℕ) : Type 0 where
+  pub is : (path ≡ folder) ⊎ ((rest : List ℕ) × (path ≡ folder ++ 47 ∷ rest))
 
-inside_is : (folder path rest : List ℕ) → path ≡ folder ++ rest → under [] rest ≡ Some rest → IsInside folder path
+pub inside_is : (folder path rest : List ℕ) → path ≡ folder ++ rest → under [] rest ≡ Some rest → IsInside folder path
 inside_is folder path [] same tail = record { is = inl (same ∙ end folder) }
   where
     end : (xs : List ℕ) → xs ++ [] ≡ xs

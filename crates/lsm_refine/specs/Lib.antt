@@ -15,6 +15,7 @@ pub mod Lifetimes
 pub mod ListedNow
 pub mod Listing
 pub mod Moments
+pub mod MovesApart
 pub mod New
 pub mod Obsolete
 pub mod Openings

@@ -8,6 +8,7 @@ mod edit_laws;
 mod frame_laws;
 mod laws;
 mod life_laws;
+mod move_laws;
 mod within_laws;
 
 pub use call_laws::{
@@ -43,6 +44,7 @@ pub use life_laws::{
     an_opening_may_have_nothing_to_do, an_opening_that_keeps_its_folder_loses_nothing,
     lives_lead_on, what_a_crash_left_opens_again,
 };
+pub use move_laws::a_moved_folder_leaves_the_stores_own;
 pub use within_laws::{
     a_restores_folder_is_one_part, changes_within_a_folder, folders_beside_read_as_before,
     pins_and_checkpoints_stay, the_stores_own_folder_stays,
