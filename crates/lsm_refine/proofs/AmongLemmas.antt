@@ -52,10 +52,13 @@ module _ (dir : List ℕ) (names : List FileName) where
   not_here : (name : FileName) → Contains names name → (other : List ℕ) → IsElsewhere dir names other → other ≢ path_in dir name
   not_here name among other elsewhere = All-contains (λ (n : FileName). other ≢ path_in dir n) names name elsewhere among
 
-  not_inside : (name : FileName) → Contains names name → (other : List ℕ) → IsOutside dir names other → (other ≢ path_in dir name) × (under (path_in dir name) other ≡ None)
-  not_inside name among other outside = All-contains (λ (n : FileName). (other ≢ path_in dir n) × (under (path_in dir n) other ≡ None)) names name outside among
+  not_inside : (name : FileName) → Contains names name → (other : List ℕ) → IsOutside dir names other
+      → (other ≢ path_in dir name) × (under (path_in dir name) other ≡ None)
+  not_inside name among other outside = All-contains (λ (n : FileName). (other ≢ path_in dir n)
+      × (under (path_in dir n) other ≡ None)) names name outside among
 
-  pub among_at : (name : FileName) → Contains names name → (d later : State) → ChangesAt (path_in dir name) d later → ChangesAmong dir names d later
+  pub among_at : (name : FileName) → Contains names name → (d later : State) → ChangesAt (path_in dir name) d later
+      → ChangesAmong dir names d later
   among_at name among d later at = record {
     now = λ other elsewhere. at.now other (not_here name among other elsewhere);
     cuts = λ k. ⊎_elim (λ old. inl old) (λ same. inr (λ other elsewhere. same other (not_here name among other elsewhere))) (at.cuts k);
@@ -67,11 +70,14 @@ module _ (dir : List ℕ) (names : List FileName) where
   }
     where
       by : (other : List ℕ) → NeverFolder other d → (other ≡ path_in dir name) ⊎ (other ≢ path_in dir name) → NeverFolder other later
-      by other never (inl same) = subst (λ (p : List ℕ). NeverFolder p later) (sym same) (at.no_folder (subst (λ (p : List ℕ). NeverFolder p d) same never))
-      by other never (inr differs) = λ k is. let was = some_cut (path_in dir name) d later at other differs k in never was.0 (sym was.1 ∙ is)
+      by other never (inl same) = subst (λ (p : List ℕ). NeverFolder p later) (sym same)
+          (at.no_folder (subst (λ (p : List ℕ). NeverFolder p d) same never))
+      by other never (inr differs) = λ k is. let was = some_cut (path_in dir name) d later at other differs k in never was.0
+          (sym was.1 ∙ is)
 
   -- what changes at some of the names
-  pub among_more : (some : List FileName) → All (Contains names) some → (d later : State) → ChangesAmong dir some d later → ChangesAmong dir names d later
+  pub among_more : (some : List FileName) → All (Contains names) some → (d later : State) → ChangesAmong dir some d later
+      → ChangesAmong dir names d later
   among_more some all d later at = record {
     now = λ other elsewhere. at.now other (fewer_elsewhere other elsewhere);
     cuts = λ k. ⊎_elim (λ old. inl old) (λ same. inr (λ other elsewhere. same other (fewer_elsewhere other elsewhere))) (at.cuts k);
@@ -83,15 +89,18 @@ module _ (dir : List ℕ) (names : List FileName) where
   }
     where
       fewer_elsewhere : (other : List ℕ) → IsElsewhere dir names other → IsElsewhere dir some other
-      fewer_elsewhere other elsewhere = All-weaker (Contains names) (λ (n : FileName). other ≢ path_in dir n) (λ n among. not_here n among other elsewhere) some all
+      fewer_elsewhere other elsewhere = All-weaker (Contains names) (λ (n : FileName). other ≢ path_in dir n)
+          (λ n among. not_here n among other elsewhere) some all
 
       fewer_outside : (other : List ℕ) → IsOutside dir names other → IsOutside dir some other
       fewer_outside other outside =
-          All-weaker (Contains names) (λ (n : FileName). (other ≢ path_in dir n) × (under (path_in dir n) other ≡ None)) (λ n among. not_inside n among other outside) some all
+          All-weaker (Contains names) (λ (n : FileName). (other ≢ path_in dir n) × (under (path_in dir n) other ≡ None))
+          (λ n among. not_inside n among other outside) some all
 
   -- ---- a file's name becomes another
 
-  module _ (from to : FileName) (among_from : Contains names from) (among_to : Contains names to) (d : State) (id : ℕ) (there : finmap.get (names_now d) (path_in dir from) ≡ Some (File_node id)) where
+  module _ (from to : FileName) (among_from : Contains names from) (among_to : Contains names to) (d : State) (id : ℕ)
+      (there : finmap.get (names_now d) (path_in dir from) ≡ Some (File_node id)) where
     abbrev old : List ℕ
     old = path_in dir from
 
@@ -121,25 +130,34 @@ module _ (dir : List ℕ) (names : List FileName) where
     moved_elsewhere other elsewhere = moved_same other (not_here from among_from other elsewhere) (not_here to among_to other elsewhere)
 
     moved_cuts : (k : ℕ) → (cut_names moved k ≡ cut_names d k) ⊎ (cut_names moved k ≡ names_now moved)
-    moved_cuts k = ⊎_elim (λ short. inl (ap (λ (ops : List NameOp). all_named ops d.durable) short)) (λ long. inr (ap (λ (ops : List NameOp). all_named ops d.durable) long)) (take_push k d.pending (Moved old new))
+    moved_cuts k = ⊎_elim (λ short. inl (ap (λ (ops : List NameOp). all_named ops d.durable) short))
+        (λ long. inr (ap (λ (ops : List NameOp). all_named ops d.durable) long)) (take_push k d.pending (Moved old new))
 
     -- what a name leads to then, a name led to before: the new one to what the old one led to
     came_from : (other : List ℕ) (node : Node) → finmap.get (names_now moved) other ≡ Some node
         → ((other ≡ new) × (Some node ≡ Some (File_node id))) ⊎ (finmap.get (names_now d) other ≡ Some node)
     came_from other node is = by (path_cases other new) (path_cases other old)
       where
-        by : (other ≡ new) ⊎ (other ≢ new) → (other ≡ old) ⊎ (other ≢ old) → ((other ≡ new) × (Some node ≡ Some (File_node id))) ⊎ (finmap.get (names_now d) other ≡ Some node)
+        by : (other ≡ new) ⊎ (other ≢ new) → (other ≡ old) ⊎ (other ≢ old)
+            → ((other ≡ new) × (Some node ≡ Some (File_node id))) ⊎ (finmap.get (names_now d) other ≡ Some node)
         by (inl same) any = inl (same, sym is ∙ ap (finmap.get (names_now moved)) same ∙ moved_there)
-        by (inr differs) (inl same) = let clash : None ≡ Some node = sym (moved_gone (λ o. differs (same ∙ o))) ∙ ap (finmap.get (names_now moved)) (sym same) ∙ is in absurd (cc)
+        by (inr differs) (inl same) = let clash : None ≡ Some node =
+            sym (moved_gone (λ o. differs (same ∙ o))) ∙ ap (finmap.get (names_now moved)) (sym same) ∙ is in absurd (cc)
         by (inr differs) (inr apart) = inr (sym (moved_same other apart differs) ∙ is)
 
     moved_alone : (other : List ℕ) → IsElsewhere dir names other → IsAlone d other → IsAlone moved other
-    moved_alone other elsewhere is = record { only = λ n k another at leads. by n k another (sym (ap id_of (moved_elsewhere other elsewhere)) ∙ at) leads (moved_cuts k) }
+    moved_alone other elsewhere is = record {
+      only = λ n k another at leads. by n k another
+          (sym (ap id_of (moved_elsewhere other elsewhere)) ∙ at) leads (moved_cuts k);
+    }
       where
-        now_led : (n : ℕ) (another : List ℕ) → file_at d other ≡ Some n → finmap.get (names_now d) another ≡ Some (File_node n) → another ≡ other
+        now_led : (n : ℕ) (another : List ℕ) → file_at d other ≡ Some n → finmap.get (names_now d) another ≡ Some (File_node n)
+            → another ≡ other
         now_led n another at leads = is.only n (length d.pending) another at (at_cut d another (Some (File_node n)) leads)
 
-        by : (n k : ℕ) (another : List ℕ) → file_at d other ≡ Some n → finmap.get (cut_names moved k) another ≡ Some (File_node n) → (cut_names moved k ≡ cut_names d k) ⊎ (cut_names moved k ≡ names_now moved) → another ≡ other
+        by : (n k : ℕ) (another : List ℕ) → file_at d other ≡ Some n
+            → finmap.get (cut_names moved k) another ≡ Some (File_node n)
+            → (cut_names moved k ≡ cut_names d k) ⊎ (cut_names moved k ≡ names_now moved) → another ≡ other
         by n k another at leads (inl short) = is.only n k another at (ap (λ (left : Names). finmap.get left another) (sym short) ∙ leads)
         by n k another at leads (inr long) = ⊎_elim
             (λ fresh. absurd (not_here from among_from other elsewhere (sym (now_led n old at (there ∙ sym fresh.1)))))
@@ -179,7 +197,8 @@ module _ (dir : List ℕ) (names : List FileName) where
     file_among = ap id_of (at.now other elsewhere)
 
     pub bytes_among : (held : List ℕ) → bytes_at (tree_now d) other ≡ Some held → bytes_at (tree_now later) other ≡ Some held
-    bytes_among held is = let found = file_of d other held is in bytes_now later other found.0 found.1 (at.files other found.0 found.1 elsewhere found.2) ∙ ap Some found.3
+    bytes_among held is = let found = file_of d other held is in bytes_now later other found.0 found.1
+        (at.files other found.0 found.1 elsewhere found.2) ∙ ap Some found.3
 
     -- what a crash leaves of the name then, one may leave before
     pub cut_among : (k : ℕ) → (j : ℕ) × (finmap.get (cut_names later k) other ≡ finmap.get (cut_names d j) other)
@@ -203,8 +222,12 @@ module _ (dir : List ℕ) (names : List FileName) where
 -- ---- a new file
 
 -- a new file that was made at a name has no other
-pub new_alone : (dir : List ℕ) (name : FileName) (d later : State) → MakesAt dir name d later → file_at later (path_in dir name) ≡ Some (length d.files) → IsAlone later (path_in dir name)
-new_alone dir name d later makes there = record { only = λ id k other at leads. makes.only k other (leads ∙ ap (λ (o : Option ℕ). node o) (sym at ∙ there)) }
+pub new_alone : (dir : List ℕ) (name : FileName) (d later : State) → MakesAt dir name d later
+    → file_at later (path_in dir name) ≡ Some (length d.files) → IsAlone later (path_in dir name)
+new_alone dir name d later makes there = record {
+  only = λ id k other at leads. makes.only k other
+      (leads ∙ ap (λ (o : Option ℕ). node o) (sym at ∙ there));
+}
   where
     node : Option ℕ → Option Node
     node None = None

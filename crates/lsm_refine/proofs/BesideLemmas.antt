@@ -93,7 +93,10 @@ module _ (dir : List ℕ) (name : FileName) where
       names = same_names c kind;
       quiet = same_quiet c kind;
       pinned = λ files are. files_stay d dir c files (λ k default within. file_spares_name _ id c kind) are;
-      inside = change_inside dir d c (record { names = λ folder ok other. file_spares_name folder id c kind; files = λ folder file ok other is. file_spares_name (path_in folder file) id c kind }) (appends c kind);
+      inside = change_inside dir d c (record {
+        names = λ folder ok other. file_spares_name folder id c kind;
+        files = λ folder file ok other is. file_spares_name (path_in folder file) id c kind;
+      }) (appends c kind);
     }
 
   -- the file has no other name still
@@ -107,18 +110,21 @@ module _ (dir : List ℕ) (name : FileName) where
   -- ---- a run of such changes
 
   -- what a run leaves is beside what stays, and so is each image on the way
-  pub went_beside : (start : Story) (told : Option Story) (id : ℕ) (P R : disk.State → Tree → Type 0) (J : disk.State → Type 0) → IsLone (state_of start) dir name id
+  pub went_beside : (start : Story) (told : Option Story) (id : ℕ) (P R : disk.State → Tree → Type 0) (J : disk.State → Type 0)
+      → IsLone (state_of start) dir name id
       → ((x : disk.State) (t : Tree) → WritesAt dir name (state_of start) x → IsImage x t → P x t → R x t) → Went start told (InFile id) P J
       → Went start told (InFile id) R (λ x. J x × (WritesAt dir name (state_of start) x × IsLone x dir name id))
   went_beside start told id P R J lone shows went =
       went_kept R (λ x. WritesAt dir name (state_of start) x × IsLone x dir name id)
-      (λ x c kind is. let next = file_writes x id is.1 c kind in (writes_both (state_of start) x (after x c) is.0 next, lone_stays x (after x c) id is.1 next))
+      (λ x c kind is. let next = file_writes x id is.1 c kind in
+      (writes_both (state_of start) x (after x c) is.0 next, lone_stays x (after x c) id is.1 next))
       (λ x t is i held. shows x t is.0 i held) J (writes_none (state_of start), lone) went
 
 -- ---- what stays
 
 -- what a store needs is another file than one that may be written
-needs_another : (kept : Kept) (last : ℕ) (name other : FileName) → MayBeWritten kept last name → IsNeeded kept other → other ≢ Log last → other ≢ Manifest kept.manifest → other ≢ name
+needs_another : (kept : Kept) (last : ℕ) (name other : FileName) → MayBeWritten kept last name → IsNeeded kept other
+    → other ≢ Log last → other ≢ Manifest kept.manifest → other ≢ name
 needs_another kept last name other may needed no_log no_manifest same = ⊎_elim
     (λ log. no_log (same ∙ log))
     (λ rest. ⊎_elim (λ manifest. no_manifest (same ∙ manifest)) (λ free. free (subst (IsNeeded kept) same needed)) rest)
@@ -130,14 +136,19 @@ log_once m n same = cc
 flip : {A : Type 0} (a b : A) → a ≢ b → b ≢ a
 flip a b differs same = differs (sym same)
 
-module _ (d : disk.State) (dir : List ℕ) (kept : Kept) (parts : Parts) (sane : Sane d dir kept parts) (name : FileName) (fits : IsFileName name) (may : MayBeWritten kept parts.last.number name) where
+module _ (d : disk.State) (dir : List ℕ) (kept : Kept) (parts : Parts) (sane : Sane d dir kept parts) (name : FileName)
+    (fits : IsFileName name) (may : MayBeWritten kept parts.last.number name) where
   abbrev last : ℕ
   last = parts.last.number
 
   older_others : All (λ (log : LogPart). IsFileName (Log log.number) × (Log log.number ≢ name)) parts.older
   older_others =
       All-weaker (IsOlder kept last) (λ (log : LogPart). IsFileName (Log log.number) × (Log log.number ≢ name))
-      (λ log is. (is.0, needs_another kept last name (Log log.number) may is.1 (λ same. is.2 (log_once log.number last same)) (λ same. cc))) parts.older
+      (λ log is. (
+        is.0,
+        needs_another kept last name (Log log.number) may is.1 (λ same. is.2 (log_once log.number last same))
+            (λ same. cc),
+      )) parts.older
       (older_are d dir kept parts (readable d dir kept parts sane).logs)
 
   last_fits : IsFileName (Log last)
@@ -153,13 +164,16 @@ module _ (d : disk.State) (dir : List ℕ) (kept : Kept) (parts : Parts) (sane :
     known_still : AreKnown later dir kept
     known_still = record {
       there = λ other among. let was = sane.known.there other among in (was.0, ap is_some (same_file (path_in dir other)) ∙ was.1);
-      all = λ other is there. sane.known.all other is (ap (λ (names : Names). is_some (finmap.get names (path_in dir other))) (sym writes.names) ∙ there);
+      all = λ other is there. sane.known.all other is (ap (λ (names : Names). is_some (finmap.get names (path_in dir other)))
+          (sym writes.names) ∙ there);
     }
 
     pub sane_beside : SaneBeside later dir kept parts name
     sane_beside = record {
-      current = current_at dir name sane.current.named fits d later writes.at kept (needs_another kept last name Current may tt (λ same. cc) (λ same. cc)) sane.current;
-      edits = λ other. edits_at dir name sane.current.named fits d later writes.at kept parts.edits sane.current.numbered (flip name (Manifest kept.manifest) other) sane.edits;
+      current = current_at dir name sane.current.named fits d later writes.at kept
+          (needs_another kept last name Current may tt (λ same. cc) (λ same. cc)) sane.current;
+      edits = λ other. edits_at dir name sane.current.named fits d later writes.at kept parts.edits sane.current.numbered
+          (flip name (Manifest kept.manifest) other) sane.edits;
       tables = tables_at dir name sane.current.named fits d later writes.at kept parts.rows
           (λ number placed found. needs_another kept last name (Table number) may (ap is_some found) (λ same. cc) (λ same. cc)) sane.tables;
       logs = record {
@@ -170,7 +184,8 @@ module _ (d : disk.State) (dir : List ℕ) (kept : Kept) (parts : Parts) (sane :
         only = λ number least is. only_still number (sane.logs.only number least is);
         frozen = sane.logs.frozen;
       };
-      last = λ other. wal_at dir name sane.current.named fits d later writes.at last _ _ last_fits (flip name (Log last) other) sane.logs.last;
+      last = λ other. wal_at dir name sane.current.named fits d later writes.at last _ _ last_fits
+          (flip name (Log last) other) sane.logs.last;
       quiet = record { spares = λ other is held. writes.quiet (path_in dir other) (sane.quiet.spares other is held) };
       known = known_still;
       files = files_at dir name sane.current.named fits d later writes.at sane.files;
@@ -180,11 +195,13 @@ module _ (d : disk.State) (dir : List ℕ) (kept : Kept) (parts : Parts) (sane :
       restored = restored_at dir name sane.current.named fits d later writes.at sane.files kept.begun kept.hand sane.restored;
     }
 
-    pub all_beside : (s : State) (id : ℕ) → IsLone d dir name id → All (λ (pin : Pin). PinFiles d dir pin.files) s.pins → JobsBuild d dir kept.pins s
+    pub all_beside : (s : State) (id : ℕ) → IsLone d dir name id → All (λ (pin : Pin). PinFiles d dir pin.files) s.pins
+        → JobsBuild d dir kept.pins s
         → AreClearable d → Beside d dir kept parts s name later
     all_beside s id lone pinned jobs clear = record {
       sane = sane_beside;
-      pinned = All-weaker (λ (pin : Pin). PinFiles d dir pin.files) (λ (pin : Pin). PinFiles later dir pin.files) (λ pin are. writes.pinned pin.files are) s.pins pinned;
+      pinned = All-weaker (λ (pin : Pin). PinFiles d dir pin.files) (λ (pin : Pin). PinFiles later dir pin.files)
+          (λ pin are. writes.pinned pin.files are) s.pins pinned;
       jobs = jobs_at dir name sane.current.named fits d later writes.at sane.files lone.alone kept.pins s jobs;
       clear = clear_at dir name sane.current.named fits d later writes.at sane.files clear;
       inside = writes.inside;

@@ -24,12 +24,15 @@ use Rattle.lsm_refine.proofs.NeededLemmas.{node_is, alone_stays}
 all_of : (d : State) → cut_names d (length d.pending) ≡ names_now d
 all_of d = ap (λ (ops : List NameOp). all_named ops d.durable) (take_all (length d.pending) d.pending (omega arith))
 
-pub at_cut : (d : State) (path : List ℕ) (what : Option Node) → finmap.get (names_now d) path ≡ what → finmap.get (cut_names d (length d.pending)) path ≡ what
+pub at_cut : (d : State) (path : List ℕ) (what : Option Node) → finmap.get (names_now d) path ≡ what
+    → finmap.get (cut_names d (length d.pending)) path ≡ what
 at_cut d path what is = ap (λ (names : Names). finmap.get names path) (all_of d) ∙ is
 
 -- what has no other name has none now
-pub only_now : (d : State) (path other : List ℕ) (id : ℕ) → IsAlone d path → file_at d path ≡ Some id → file_at d other ≡ Some id → other ≡ path
-only_now d path other id alone there leads = alone.only id (length d.pending) other there (at_cut d other (Some (File_node id)) (node_is (finmap.get (names_now d) other) id leads))
+pub only_now : (d : State) (path other : List ℕ) (id : ℕ) → IsAlone d path → file_at d path ≡ Some id
+    → file_at d other ≡ Some id → other ≡ path
+only_now d path other id alone there leads = alone.only id (length d.pending) other there
+    (at_cut d other (Some (File_node id)) (node_is (finmap.get (names_now d) other) id leads))
 
 file_once : (a b : ℕ) → Some (File_node a) ≡ Some (File_node b) → a ≡ b
 file_once a b same = cc
@@ -88,7 +91,8 @@ names_synced_at path d = record {
 
 -- ---- an append to a file that has no other name, and its sync
 
-module _ (path : List ℕ) (d : State) (id : ℕ) (elsewhere : (other : List ℕ) → other ≢ path → file_at d other ≢ Some id) (change : FileState → FileState) where
+module _ (path : List ℕ) (d : State) (id : ℕ) (elsewhere : (other : List ℕ) → other ≢ path → file_at d other ≢ Some id)
+    (change : FileState → FileState) where
   file_changed : ChangesAt path d (record d { files = in_file change id d.files })
   file_changed = record {
     now = λ other differs. refl;
@@ -104,20 +108,26 @@ module _ (path : List ℕ) (d : State) (id : ℕ) (elsewhere : (other : List ℕ
   }
 
 -- of a file that no other name leads to now
-pub other_written_at : (path : List ℕ) (d : State) (id : ℕ) → ((other : List ℕ) → other ≢ path → file_at d other ≢ Some id) → (c : Change) → InFile id c → ChangesAt path d (after d c)
+pub other_written_at : (path : List ℕ) (d : State) (id : ℕ) → ((other : List ℕ) → other ≢ path → file_at d other ≢ Some id)
+    → (c : Change) → InFile id c → ChangesAt path d (after d c)
 other_written_at path d id elsewhere (Created other) kind = absurd kind
 other_written_at path d id elsewhere (Named op) kind = absurd kind
-other_written_at path d id elsewhere (Appended k more) kind = file_changed path d k (λ other differs leads. elsewhere other differs (leads ∙ ap Some kind)) (longer more)
-other_written_at path d id elsewhere (Synced k) kind = file_changed path d k (λ other differs leads. elsewhere other differs (leads ∙ ap Some kind)) sure
+other_written_at path d id elsewhere (Appended k more) kind =
+    file_changed path d k (λ other differs leads. elsewhere other differs (leads ∙ ap Some kind)) (longer more)
+other_written_at path d id elsewhere (Synced k) kind = file_changed path d k
+    (λ other differs leads. elsewhere other differs (leads ∙ ap Some kind)) sure
 other_written_at path d id elsewhere Names_synced kind = absurd kind
 other_written_at path d id elsewhere Idle kind = changes_none path d
 
-pub file_written_at : (path : List ℕ) (d : State) (id : ℕ) → file_at d path ≡ Some id → IsAlone d path → (c : Change) → InFile id c → ChangesAt path d (after d c)
-file_written_at path d id there alone c kind = other_written_at path d id (λ other differs leads. differs (only_now d path other id alone there leads)) c kind
+pub file_written_at : (path : List ℕ) (d : State) (id : ℕ) → file_at d path ≡ Some id → IsAlone d path → (c : Change)
+    → InFile id c → ChangesAt path d (after d c)
+file_written_at path d id there alone c kind = other_written_at path d id
+    (λ other differs leads. differs (only_now d path other id alone there leads)) c kind
 
 -- ---- a name is put or is gone
 
-module _ (path : List ℕ) (d : State) (op : NameOp) (spares : (other : List ℕ) → other ≢ path → OpSpares other op) (files : List FileState) where
+module _ (path : List ℕ) (d : State) (op : NameOp) (spares : (other : List ℕ) → other ≢ path → OpSpares other op)
+    (files : List FileState) where
   abbrev then : State
   then = record d { pending = d.pending ++ op ∷ []; files = files }
 
@@ -125,13 +135,16 @@ module _ (path : List ℕ) (d : State) (op : NameOp) (spares : (other : List ℕ
   then_now = all_push d.pending op d.durable
 
   then_same : (other : List ℕ) → other ≢ path → finmap.get (names_now then) other ≡ finmap.get (names_now d) other
-  then_same other differs = ap (λ (names : Names). finmap.get names other) then_now ∙ get_spared other op (names_now d) (spares other differs)
+  then_same other differs = ap (λ (names : Names). finmap.get names other) then_now ∙ get_spared other op (names_now d)
+      (spares other differs)
 
   -- a crash leaves the names of before or those of now
   then_cuts : (k : ℕ) → (cut_names then k ≡ cut_names d k) ⊎ (cut_names then k ≡ names_now then)
-  then_cuts k = ⊎_elim (λ short. inl (ap (λ (ops : List NameOp). all_named ops d.durable) short)) (λ long. inr (ap (λ (ops : List NameOp). all_named ops d.durable) long)) (take_push k d.pending op)
+  then_cuts k = ⊎_elim (λ short. inl (ap (λ (ops : List NameOp). all_named ops d.durable) short))
+      (λ long. inr (ap (λ (ops : List NameOp). all_named ops d.durable) long)) (take_push k d.pending op)
 
-  op_at : ((other : List ℕ) → IsAlone d other → IsAlone then other) → ((id : ℕ) (f : FileState) → slice_get d.files id ≡ Some f → slice_get files id ≡ Some f) → length d.files ≤ length files
+  op_at : ((other : List ℕ) → IsAlone d other → IsAlone then other)
+      → ((id : ℕ) (f : FileState) → slice_get d.files id ≡ Some f → slice_get files id ≡ Some f) → length d.files ≤ length files
       → finmap.get (names_now then) path ≢ Some Folder_node → ChangesAt path d then
   op_at still kept more flat = record {
     now = then_same;
@@ -164,7 +177,8 @@ module _ (path : List ℕ) (d : State) (lead : LeadToFiles d) where
   made_same other differs = then_same path d putting (λ o differ. differ) (d.files ++ new_file ∷ []) other differs
 
   made_there : finmap.get (names_now made) path ≡ Some (File_node count)
-  made_there = ap (λ (names : Names). finmap.get names path) (all_push d.pending putting d.durable) ∙ get_put (names_now d) path (File_node count)
+  made_there = ap (λ (names : Names). finmap.get names path) (all_push d.pending putting d.durable) ∙ get_put
+      (names_now d) path (File_node count)
 
   fewer_than : (k : ℕ) (other : List ℕ) (id : ℕ) → finmap.get (cut_names d k) other ≡ Some (File_node id) → id < count
   fewer_than k other id leads = (lead k).made other id leads
@@ -175,29 +189,40 @@ module _ (path : List ℕ) (d : State) (lead : LeadToFiles d) where
 
   new_only : (k id : ℕ) (other : List ℕ) → count ≡ id → finmap.get (cut_names made k) other ≡ Some (File_node id) → other ≡ path
   new_only k id other same leads = ⊎_elim
-      (λ short. absurd (never_new k other (ap (λ (names : Names). finmap.get names other) (sym short) ∙ leads ∙ ap (λ (n : ℕ). Some (File_node n)) (sym same))))
+      (λ short. absurd (never_new k other (ap (λ (names : Names). finmap.get names other) (sym short) ∙ leads ∙ ap
+      (λ (n : ℕ). Some (File_node n)) (sym same))))
       (λ long. ⊎_elim
       (λ is. is)
       (λ differs. absurd (never_new (length d.pending) other
-      (at_cut d other (Some (File_node count)) (sym (made_same other differs) ∙ ap (λ (names : Names). finmap.get names other) (sym long) ∙ leads ∙ ap (λ (n : ℕ). Some (File_node n)) (sym same)))))
+      (at_cut d other (Some (File_node count)) (sym (made_same other differs) ∙ ap (λ (names : Names). finmap.get names other)
+      (sym long) ∙ leads ∙ ap (λ (n : ℕ). Some (File_node n)) (sym same)))))
       (path_cases other path))
       (then_cuts path d putting (λ o differ. differ) (d.files ++ new_file ∷ []) k)
 
   -- the new file has no other name
   pub made_alone : IsAlone made path
-  made_alone = record { only = λ id k other at leads. new_only k id other (file_once count id (sym made_there ∙ node_is (finmap.get (names_now made) path) id at)) leads }
+  made_alone = record {
+    only = λ id k other at leads. new_only k id other
+        (file_once count id (sym made_there ∙ node_is (finmap.get (names_now made) path) id at)) leads;
+  }
 
   old_alone : (other : List ℕ) → other ≢ path → IsAlone d other → IsAlone made other
-  old_alone other differs is = record { only = λ id k another at leads. by id k another (sym (ap id_of (made_same other differs)) ∙ at) leads }
+  old_alone other differs is = record {
+    only = λ id k another at leads. by id k another
+        (sym (ap id_of (made_same other differs)) ∙ at) leads;
+  }
     where
-      by : (id k : ℕ) (another : List ℕ) → file_at d other ≡ Some id → finmap.get (cut_names made k) another ≡ Some (File_node id) → another ≡ other
+      by : (id k : ℕ) (another : List ℕ) → file_at d other ≡ Some id
+          → finmap.get (cut_names made k) another ≡ Some (File_node id) → another ≡ other
       by id k another at leads = ⊎_elim
           (λ short. is.only id k another at (ap (λ (names : Names). finmap.get names another) (sym short) ∙ leads))
           (λ long. ⊎_elim
           (λ same. absurd (never_new (length d.pending) other
           (at_cut d other (Some (File_node count)) (node_is (finmap.get (names_now d) other) id at
           ∙ sym leads ∙ ap (λ (names : Names). finmap.get names another) long ∙ ap (finmap.get (names_now made)) same ∙ made_there))))
-          (λ apart. is.only id (length d.pending) another at (at_cut d another (Some (File_node id)) (sym (made_same another apart) ∙ ap (λ (names : Names). finmap.get names another) (sym long) ∙ leads)))
+          (λ apart. is.only id (length d.pending) another at
+          (at_cut d another (Some (File_node id)) (sym (made_same another apart) ∙ ap
+          (λ (names : Names). finmap.get names another) (sym long) ∙ leads)))
           (path_cases another path))
           (then_cuts path d putting (λ o differ. differ) (d.files ++ new_file ∷ []) k)
 
@@ -207,8 +232,16 @@ module _ (path : List ℕ) (d : State) (lead : LeadToFiles d) where
   made_cases k id other leads = ⊎_elim
       (λ short. inl (k, ap (λ (names : Names). finmap.get names other) (sym short) ∙ leads))
       (λ long. ⊎_elim
-      (λ same. inr (same, file_once count id (sym made_there ∙ ap (finmap.get (names_now made)) (sym same) ∙ ap (λ (names : Names). finmap.get names other) (sym long) ∙ leads)))
-      (λ differs. inl (length d.pending, at_cut d other (Some (File_node id)) (sym (made_same other differs) ∙ ap (λ (names : Names). finmap.get names other) (sym long) ∙ leads)))
+      (λ same. inr (
+        same,
+        file_once count id (sym made_there ∙ ap (finmap.get (names_now made)) (sym same) ∙ ap
+            (λ (names : Names). finmap.get names other) (sym long) ∙ leads),
+      ))
+      (λ differs. inl (
+        length d.pending,
+        at_cut d other (Some (File_node id))
+            (sym (made_same other differs) ∙ ap (λ (names : Names). finmap.get names other) (sym long) ∙ leads),
+      ))
       (path_cases other path))
       (then_cuts path d putting (λ o differ. differ) (d.files ++ new_file ∷ []) k)
 
@@ -224,7 +257,8 @@ module _ (path : List ℕ) (d : State) (lead : LeadToFiles d) where
   }
 
   -- a name that alone may lead to a file still does, where it is the path
-  pub made_only : (id : ℕ) → ((k : ℕ) (other : List ℕ) → finmap.get (cut_names d k) other ≡ Some (File_node id) → other ≡ path) → (k : ℕ) (other : List ℕ)
+  pub made_only : (id : ℕ) → ((k : ℕ) (other : List ℕ) → finmap.get (cut_names d k) other ≡ Some (File_node id) → other ≡ path)
+      → (k : ℕ) (other : List ℕ)
       → finmap.get (cut_names made k) other ≡ Some (File_node id) → other ≡ path
   made_only id only k other leads = ⊎_elim (λ old. only old.0 other old.1) (λ new. new.0) (made_cases k id other leads)
 
@@ -236,7 +270,10 @@ module _ (path : List ℕ) (d : State) (lead : LeadToFiles d) where
       (λ is. file_no_folder count (sym made_there ∙ is))
     where
       subst_alone : (other : List ℕ) → other ≡ path → IsAlone made other
-      subst_alone other same = record { only = λ id k another at leads. (made_alone.only id k another (ap (file_at made) (sym same) ∙ at) leads) ∙ sym same }
+      subst_alone other same = record {
+        only = λ id k another at leads.
+            (made_alone.only id k another (ap (file_at made) (sym same) ∙ at) leads) ∙ sym same;
+      }
 
 -- a file's name is taken away
 module _ (path : List ℕ) (d : State) where
@@ -252,25 +289,33 @@ module _ (path : List ℕ) (d : State) where
   gone_alone : (other : List ℕ) → IsAlone d other → IsAlone gone other
   gone_alone other is = record { only = λ id k another at leads. by id k another at leads (path_cases other path) }
     where
-      led : (id k : ℕ) (another : List ℕ) → file_at d other ≡ Some id → finmap.get (cut_names gone k) another ≡ Some (File_node id) → another ≡ other
+      led : (id k : ℕ) (another : List ℕ) → file_at d other ≡ Some id
+          → finmap.get (cut_names gone k) another ≡ Some (File_node id) → another ≡ other
       led id k another at leads = ⊎_elim
           (λ short. is.only id k another at (ap (λ (names : Names). finmap.get names another) (sym short) ∙ leads))
           (λ long. ⊎_elim
-          (λ same. absurd (no_node (File_node id) (sym gone_there ∙ ap (finmap.get (names_now gone)) (sym same) ∙ ap (λ (names : Names). finmap.get names another) (sym long) ∙ leads)))
-          (λ apart. is.only id (length d.pending) another at (at_cut d another (Some (File_node id)) (sym (gone_same another apart) ∙ ap (λ (names : Names). finmap.get names another) (sym long) ∙ leads)))
+          (λ same. absurd (no_node (File_node id) (sym gone_there ∙ ap (finmap.get (names_now gone)) (sym same) ∙ ap
+          (λ (names : Names). finmap.get names another) (sym long) ∙ leads)))
+          (λ apart. is.only id (length d.pending) another at
+          (at_cut d another (Some (File_node id)) (sym (gone_same another apart) ∙ ap
+          (λ (names : Names). finmap.get names another) (sym long) ∙ leads)))
           (path_cases another path))
           (then_cuts path d (Gone path) (λ o differ. differ) d.files k)
 
-      by : (id k : ℕ) (another : List ℕ) → file_at gone other ≡ Some id → finmap.get (cut_names gone k) another ≡ Some (File_node id) → (other ≡ path) ⊎ (other ≢ path) → another ≡ other
-      by id k another at leads (inl same) = let clash : None ≡ Some id = sym (ap id_of gone_there) ∙ ap (file_at gone) (sym same) ∙ at in absurd (cc)
+      by : (id k : ℕ) (another : List ℕ) → file_at gone other ≡ Some id
+          → finmap.get (cut_names gone k) another ≡ Some (File_node id) → (other ≡ path) ⊎ (other ≢ path) → another ≡ other
+      by id k another at leads (inl same) = let clash : None ≡ Some id =
+          sym (ap id_of gone_there) ∙ ap (file_at gone) (sym same) ∙ at in absurd (cc)
       by id k another at leads (inr differs) = led id k another (sym (ap id_of (gone_same other differs)) ∙ at) leads
 
   pub gone_at : ChangesAt path d gone
-  gone_at = op_at path d (Gone path) (λ other differs. differs) d.files gone_alone (λ id f is. is) (omega arith) (λ is. no_node Folder_node (sym gone_there ∙ is))
+  gone_at = op_at path d (Gone path) (λ other differs. differs) d.files gone_alone (λ id f is. is) (omega arith)
+      (λ is. no_node Folder_node (sym gone_there ∙ is))
 
 -- ---- what stays of other files
 
-file_contents : (fs : List FileState) (id : ℕ) (f : FileState) → slice_get fs id ≡ Some f → slice_get (contents_of fs) id ≡ Some (bytes_of f)
+file_contents : (fs : List FileState) (id : ℕ) (f : FileState) → slice_get fs id ≡ Some f
+    → slice_get (contents_of fs) id ≡ Some (bytes_of f)
 file_contents [] id f is = absurd (cc)
 file_contents (g ∷ fs) zero f is = ap bytes is
   where
@@ -279,7 +324,8 @@ file_contents (g ∷ fs) zero f is = ap bytes is
     bytes (Some h) = Some (bytes_of h)
 file_contents (g ∷ fs) (suc id) f is = file_contents fs id f is
 
-contents_file : (fs : List FileState) (id : ℕ) (held : List ℕ) → slice_get (contents_of fs) id ≡ Some held → (f : FileState) × (slice_get fs id ≡ Some f) × (bytes_of f ≡ held)
+contents_file : (fs : List FileState) (id : ℕ) (held : List ℕ) → slice_get (contents_of fs) id ≡ Some held
+    → (f : FileState) × (slice_get fs id ≡ Some f) × (bytes_of f ≡ held)
 contents_file [] id held is = absurd (cc)
 contents_file (f ∷ fs) zero held is = (f, refl, once (bytes_of f) held is)
   where
@@ -288,15 +334,19 @@ contents_file (f ∷ fs) zero held is = (f, refl, once (bytes_of f) held is)
 contents_file (f ∷ fs) (suc id) held is = contents_file fs id held is
 
 -- the bytes of a path are those of a file
-pub file_of : (d : State) (path held : List ℕ) → bytes_at (tree_now d) path ≡ Some held → (id : ℕ) × (f : FileState) × IsFileNow d path id f × (bytes_of f ≡ held)
+pub file_of : (d : State) (path held : List ℕ) → bytes_at (tree_now d) path ≡ Some held
+    → (id : ℕ) × (f : FileState) × IsFileNow d path id f × (bytes_of f ≡ held)
 file_of d path held is = by (finmap.get (names_now d) path) refl is
   where
-    by : (node : Option Node) → finmap.get (names_now d) path ≡ node → bytes_by (id_of node) (tree_now d) ≡ Some held → (id : ℕ) × (f : FileState) × IsFileNow d path id f × (bytes_of f ≡ held)
+    by : (node : Option Node) → finmap.get (names_now d) path ≡ node → bytes_by (id_of node) (tree_now d) ≡ Some held
+        → (id : ℕ) × (f : FileState) × IsFileNow d path id f × (bytes_of f ≡ held)
     by None at has = absurd (cc)
     by (Some Folder_node) at has = absurd (cc)
-    by (Some (File_node id)) at has = let found = contents_file d.files id held has in (id, found.0, record { named = at; file = found.1 }, found.2)
+    by (Some (File_node id)) at has = let found = contents_file d.files id held has in
+        (id, found.0, record { named = at; file = found.1 }, found.2)
 
-pub bytes_now : (d : State) (path : List ℕ) (id : ℕ) (f : FileState) → IsFileNow d path id f → bytes_at (tree_now d) path ≡ Some (bytes_of f)
+pub bytes_now : (d : State) (path : List ℕ) (id : ℕ) (f : FileState) → IsFileNow d path id f
+    → bytes_at (tree_now d) path ≡ Some (bytes_of f)
 bytes_now d path id f is = ap (λ (node : Option Node). bytes_by (id_of node) (tree_now d)) is.named ∙ file_contents d.files id f is.file
 
 module _ (path : List ℕ) (d later : State) (at : ChangesAt path d later) (other : List ℕ) (differs : other ≢ path) where
@@ -304,7 +354,8 @@ module _ (path : List ℕ) (d later : State) (at : ChangesAt path d later) (othe
   file_stays = ap id_of (at.now other differs)
 
   pub bytes_stay : (held : List ℕ) → bytes_at (tree_now d) other ≡ Some held → bytes_at (tree_now later) other ≡ Some held
-  bytes_stay held is = let found = file_of d other held is in bytes_now later other found.0 found.1 (at.files other found.0 found.1 differs found.2) ∙ ap Some found.3
+  bytes_stay held is = let found = file_of d other held is in bytes_now later other found.0 found.1
+      (at.files other found.0 found.1 differs found.2) ∙ ap Some found.3
 
   -- what a crash leaves of the name then, one may leave before
   pub some_cut : (k : ℕ) → (j : ℕ) × (finmap.get (cut_names later k) other ≡ finmap.get (cut_names d j) other)

@@ -41,16 +41,20 @@ same_test name path = alike _ _
 
 -- ---- an entry that is found
 
-pub listed : (own name : List ℕ) (folder : FolderRead) (folders : List FolderRead) → All (λ (f : FolderRead). (is_folder_name f.name ≡ true) × (f.name ≢ own)) folders → folder_of name folders ≡ Some folder
+pub listed : (own name : List ℕ) (folder : FolderRead) (folders : List FolderRead)
+    → All (λ (f : FolderRead). (is_folder_name f.name ≡ true) × (f.name ≢ own)) folders → folder_of name folders ≡ Some folder
     → (folder.name ≡ name) × (is_folder_name folder.name ≡ true) × (folder.name ≢ own)
 listed own name folder [] only is = cc
 listed own name folder (f ∷ folders) only is =
-    elim (bytes_eq f.name name) as (λ b. bytes_eq f.name name ≡ b → cond b (Some f) (folder_of name folders) ≡ Some folder → (folder.name ≡ name) × (is_folder_name folder.name ≡ true) × (folder.name ≢ own)) [
+    elim (bytes_eq f.name name) as (λ b. bytes_eq f.name name ≡ b → cond b (Some f) (folder_of name folders) ≡ Some folder
+    → (folder.name ≡ name) × (is_folder_name folder.name ≡ true) × (folder.name ≢ own)) [
       | true ↦ λ same h.
           let found : f ≡ folder = some_once f folder h in
           subst (λ (g : FolderRead). (g.name ≡ name) × (is_folder_name g.name ≡ true) × (g.name ≢ own)) found
-          (let fits = All-head (λ (g : FolderRead). (is_folder_name g.name ≡ true) × (g.name ≢ own)) f folders only in (equal_texts f.name name same, fits.0, fits.1))
-      | false ↦ λ other h. listed own name folder folders (All-tail (λ (g : FolderRead). (is_folder_name g.name ≡ true) × (g.name ≢ own)) f folders only) h
+          (let fits = All-head (λ (g : FolderRead). (is_folder_name g.name ≡ true) × (g.name ≢ own)) f folders only in
+          (equal_texts f.name name same, fits.0, fits.1))
+      | false ↦ λ other h. listed own name folder folders (All-tail
+          (λ (g : FolderRead). (is_folder_name g.name ≡ true) × (g.name ≢ own)) f folders only) h
     ] refl is
   where
     some_once : (x y : FolderRead) → Some x ≡ Some y → x ≡ y
@@ -97,48 +101,58 @@ module _ (s : State) (t : Tree) where
   only_from : (es : List (List ℕ × Node)) → All (λ (f : FolderRead). (is_folder_name f.name ≡ true) × (f.name ≢ s.own)) (folders_from es)
   only_from [] = All-nil (λ (f : FolderRead). (is_folder_name f.name ≡ true) × (f.name ≢ s.own))
   only_from (e ∷ es) =
-      elim (is_other e.0) as (λ b. is_other e.0 ≡ b → All (λ (f : FolderRead). (is_folder_name f.name ≡ true) × (f.name ≢ s.own)) (cond b (as_read e.0 ∷ folders_from es) (folders_from es))) [
-        | true ↦ λ is. All-cons (λ (f : FolderRead). (is_folder_name f.name ≡ true) × (f.name ≢ s.own)) (as_read e.0) (folders_from es) (is_listed e.0 is) (only_from es)
+      elim (is_other e.0) as (λ b. is_other e.0 ≡ b → All (λ (f : FolderRead). (is_folder_name f.name ≡ true)
+      × (f.name ≢ s.own)) (cond b (as_read e.0 ∷ folders_from es) (folders_from es))) [
+        | true ↦ λ is. All-cons (λ (f : FolderRead). (is_folder_name f.name ≡ true) × (f.name ≢ s.own)) (as_read e.0)
+            (folders_from es) (is_listed e.0 is) (only_from es)
         | false ↦ λ no_other. only_from es
       ] refl
 
   module _ (name : List ℕ) (fits : is_folder_name name ≡ true) (other : name ≢ s.own) where
-    found_by : (e : List ℕ × Node) (b : Bool) (rest : Option FolderRead) (found : Option Node) → eq_by_cmp path_cmp name e.0 ≡ b → rest ≡ option_map (λ (node : Node). as_read name) found
+    found_by : (e : List ℕ × Node) (b : Bool) (rest : Option FolderRead) (found : Option Node)
+        → eq_by_cmp path_cmp name e.0 ≡ b → rest ≡ option_map (λ (node : Node). as_read name) found
         → cond b (Some (as_read e.0)) rest ≡ option_map (λ (node : Node). as_read name) (cond b (Some e.1) found)
     found_by e true rest found same is = ap (λ (p : List ℕ). Some (as_read p)) (sym (same_path name e.0 same))
     found_by e false rest found differ is = is
 
-    folder_from : (es : List (List ℕ × Node)) → folder_of name (folders_from es) ≡ option_map (λ (node : Node). as_read name) (finmap.find path_cmp name es)
+    folder_from : (es : List (List ℕ × Node)) → folder_of name (folders_from es)
+        ≡ option_map (λ (node : Node). as_read name) (finmap.find path_cmp name es)
     folder_from [] = refl
     folder_from (e ∷ es) =
         elim (is_other e.0) as (λ b. is_other e.0 ≡ b → folder_of name (cond b (as_read e.0 ∷ folders_from es) (folders_from es))
         ≡ option_map (λ (node : Node). as_read name) (cond (eq_by_cmp path_cmp name e.0) (Some e.1) (finmap.find path_cmp name es))) [
           | true ↦ λ is.
               ap (λ (b : Bool). cond b (Some (as_read e.0)) (folder_of name (folders_from es))) (same_test name e.0)
-              ∙ found_by e (eq_by_cmp path_cmp name e.0) (folder_of name (folders_from es)) (finmap.find path_cmp name es) refl (folder_from es)
+              ∙ found_by e (eq_by_cmp path_cmp name e.0) (folder_of name (folders_from es)) (finmap.find path_cmp name es) refl
+              (folder_from es)
           | false ↦ λ none.
               folder_from es
-              ∙ sym (ap (λ (b : Bool). option_map (λ (node : Node). as_read name) (cond b (Some e.1) (finmap.find path_cmp name es))) (differs e none))
+              ∙ sym (ap (λ (b : Bool). option_map (λ (node : Node). as_read name)
+              (cond b (Some e.1) (finmap.find path_cmp name es))) (differs e none))
         ] refl
       where
         differs : (e : List ℕ × Node) → is_other e.0 ≡ false → eq_by_cmp path_cmp name e.0 ≡ false
         differs e none =
             elim (eq_by_cmp path_cmp name e.0) as (λ b. eq_by_cmp path_cmp name e.0 ≡ b → b ≡ false) [
-              | true ↦ λ same. let clash : true ≡ false = sym (other_is name fits other) ∙ ap is_other (same_path name e.0 same) ∙ none in cc
+              | true ↦ λ same. let clash : true ≡ false = sym (other_is name fits other) ∙ ap is_other
+                  (same_path name e.0 same) ∙ none in cc
               | false ↦ λ differ. refl
             ] refl
 
     folder_is : folder_of name folders_in ≡ option_map (λ (node : Node). as_read name) (finmap.get t.names name)
-    folder_is = folder_from (finmap.entries t.names) ∙ ap (option_map (λ (node : Node). as_read name)) (sym (finmap.get-entries t.names name))
+    folder_is = folder_from (finmap.entries t.names) ∙ ap (option_map (λ (node : Node). as_read name))
+        (sym (finmap.get-entries t.names name))
 
     -- where nothing stands there is no folder to read
     nothing_read : finmap.get t.names name ≡ None → folder_reading name t ≡ Err (error.NoFolder name)
     unfolding folder_reading
     nothing_read is =
-        let free : stands t.names name ≡ None = sym (get_named t.names name (λ empty. omega (arith, folder_has_bytes name fits, ap (λ (p : List ℕ). length p) empty))) ∙ is in
+        let free : stands t.names name ≡ None = sym (get_named t.names name
+        (λ empty. omega (arith, folder_has_bytes name fits, ap (λ (p : List ℕ). length p) empty))) ∙ is in
         ap (λ (place : Place). as_shown name (reading place)) (no_place name t free)
 
-    reads_by : (node : Option Node) → finmap.get t.names name ≡ node → folder_reading name t ≡ known_reading name (option_map (λ (n : Node). as_read name) node)
+    reads_by : (node : Option Node) → finmap.get t.names name ≡ node
+        → folder_reading name t ≡ known_reading name (option_map (λ (n : Node). as_read name) node)
     reads_by None is = nothing_read is
     reads_by (Some node) is = refl
 
@@ -152,7 +166,8 @@ module _ (s : State) (t : Tree) where
     taken : is_some (folder_of name folders_in) ≡ is_some (finmap.get t.names name)
     taken = ap is_some folder_is ∙ some_of (finmap.get t.names name)
 
-    sure_by : (folder : FolderRead) (node : Option Node) → is_some node ≡ true → as_read name ≡ folder → option_map (λ (n : Node). as_read name) node ≡ Some folder
+    sure_by : (folder : FolderRead) (node : Option Node) → is_some node ≡ true → as_read name ≡ folder
+        → option_map (λ (n : Node). as_read name) node ≡ Some folder
     sure_by folder None there same = cc
     sure_by folder (Some node) there same = ap Some same
 
@@ -165,8 +180,10 @@ module _ (s : State) (t : Tree) where
       let sure = are.sure name folder found is_sure in
       let fits : is_folder_name name ≡ true = subst (λ (p : List ℕ). is_folder_name p ≡ true) entry.0 entry.1 in
       let other : name ≢ s.own = subst (λ (p : List ℕ). p ≢ s.own) entry.0 entry.2 in
-      let there : is_some (finmap.get t.names name) ≡ true = subst (λ (p : List ℕ). is_some (finmap.get t.names p) ≡ true) entry.0 (sure.there t i) in
-      let is_read : folder_reading name t ≡ folder.reading = subst (λ (p : List ℕ). folder_reading p t ≡ folder.reading) entry.0 (sure.reads t i) in
+      let there : is_some (finmap.get t.names name) ≡ true =
+      subst (λ (p : List ℕ). is_some (finmap.get t.names p) ≡ true) entry.0 (sure.there t i) in
+      let is_read : folder_reading name t ≡ folder.reading =
+      subst (λ (p : List ℕ). folder_reading p t ≡ folder.reading) entry.0 (sure.reads t i) in
       let marked : was_sure (folder_of name s.folders) ≡ folder.sure = ap was_sure found in
       let same : as_read name ≡ folder = λ j. record { name = sym entry.0 j; reading = is_read j; sure = marked j } in
       folder_is name fits other ∙ sure_by name fits other folder (finmap.get t.names name) there same
@@ -177,10 +194,12 @@ module _ (s : State) (t : Tree) where
       let entry = listed s.own name folder folders_in folders_are.only found in
       let fits : is_folder_name name ≡ true = subst (λ (p : List ℕ). is_folder_name p ≡ true) entry.0 entry.1 in
       let other : name ≢ s.own = subst (λ (p : List ℕ). p ≢ s.own) entry.0 entry.2 in
-      let unmarked : was_sure (folder_of name s.folders) ≡ false = ap (λ (folders : List FolderRead). was_sure (folder_of name folders)) none in
+      let unmarked : was_sure (folder_of name s.folders) ≡ false =
+      ap (λ (folders : List FolderRead). was_sure (folder_of name folders)) none in
       by_node name folder unmarked (finmap.get t.names name) (sym (folder_is name fits other) ∙ found)
     where
-      by_node : (name : List ℕ) (folder : FolderRead) → was_sure (folder_of name s.folders) ≡ false → (node : Option Node) → option_map (λ (n : Node). as_read name) node ≡ Some folder → folder.sure ≡ false
+      by_node : (name : List ℕ) (folder : FolderRead) → was_sure (folder_of name s.folders) ≡ false → (node : Option Node)
+          → option_map (λ (n : Node). as_read name) node ≡ Some folder → folder.sure ≡ false
       by_node name folder unmarked None is = cc
       by_node name folder unmarked (Some node) is = ap (λ (o : Option FolderRead). was_sure o) (sym is) ∙ unmarked
 
@@ -188,7 +207,11 @@ module _ (s : State) (t : Tree) where
 
   module _ (front : StandsFrom s s.durable t) where
     abbrev pub after_crash : State
-    after_crash = record (closed s) { accepted = take front.count (written s); durable = length (take front.count (written s)); folders = folders_in }
+    after_crash = record (closed s) {
+      accepted = take front.count (written s);
+      durable = length (take front.count (written s));
+      folders = folders_in;
+    }
 
     all_of_it : take front.count (written s) ≡ take (length (take front.count (written s))) (written after_crash)
     all_of_it =
@@ -198,7 +221,8 @@ module _ (s : State) (t : Tree) where
     pub stands_after : StandsFor after_crash t (length after_crash.accepted)
     stands_after = record {
       folder = front.stands.folder;
-      stands = subst (λ (l : List (List Op)). Stands (files_in s.own t) (replayed s.opening l) (sequence_after s.began l)) all_of_it front.stands.stands;
+      stands = subst (λ (l : List (List Op)). Stands (files_in s.own t) (replayed s.opening l)
+          (sequence_after s.began l)) all_of_it front.stands.stands;
     }
 
     reads_after : ReadsAs t after_crash
@@ -215,14 +239,17 @@ module _ (s : State) (t : Tree) where
     }
 
 -- an image in which the store's own folder stands for such a front, and the sure folders read as they did
-pub front_reads : (d : disk.State) (s : State) (t : Tree) → IsImage d t → FoldersRead d s → StandsFrom s s.durable t → (c : State) × Crashed s c × ReadsAs t c
+pub front_reads : (d : disk.State) (s : State) (t : Tree) → IsImage d t → FoldersRead d s → StandsFrom s s.durable t
+    → (c : State) × Crashed s c × ReadsAs t c
 front_reads d s t i are front = (after_crash s t front, crashed s t front d i are, reads_after s t front)
 
-pub image_reads : (v : Shown) (s : State) (good : Good v s) (t : Tree) → IsImage (state_of good.story) t → (c : State) × Crashed s c × ReadsAs t c
+pub image_reads : (v : Shown) (s : State) (good : Good v s) (t : Tree) → IsImage (state_of good.story) t
+    → (c : State) × Crashed s c × ReadsAs t c
 image_reads v s good t i = front_reads (state_of good.story) s t i good.folders (good_image v s good t i)
 
 -- the other folders of any disk can be listed
-pub list_folders : (d : disk.State) (s : State) → s.folders ≡ [] → (folders : List FolderRead) × FoldersRead d (record s { folders = folders })
+pub list_folders : (d : disk.State) (s : State) → s.folders ≡ []
+    → (folders : List FolderRead) × FoldersRead d (record s { folders = folders })
 list_folders d s none = (
   folders_in s (tree_now d),
   record {

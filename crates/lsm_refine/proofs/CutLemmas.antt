@@ -18,7 +18,8 @@ use Rattle.lsm_refine.specs.Pins.{ArePins, IsKeptPin, folder_of_pin, ListedStand
 use Rattle.lsm_refine.specs.Good.{Good}
 
 -- the last pin of a state is kept
-last_fits : (Fits : KeptPin → Pin → Type 0) (kept : List KeptPin) (pins : List Pin) (pin : Pin) → ArePins Fits kept (pins ++ pin ∷ []) → (k : KeptPin) × Fits k pin
+last_fits : (Fits : KeptPin → Pin → Type 0) (kept : List KeptPin) (pins : List Pin) (pin : Pin)
+    → ArePins Fits kept (pins ++ pin ∷ []) → (k : KeptPin) × Fits k pin
 last_fits Fits [] [] pin are = absurd are
 last_fits Fits [] (p ∷ pins) pin are = absurd are
 last_fits Fits (k ∷ kept) [] pin are = (k, are.0)
@@ -34,9 +35,11 @@ cut_stands s t w rule cut done good =
       files = done.files;
       are = done.lists;
       stands = subst (λ (n : ℕ). Stands (folder_of_pin cut.manifest done.files) (shown_at t n).contents (shown_at t n).sequence) count
-          (subst (λ (m : ℕ). Stands (folder_of_pin m done.files) (shown_at t (length done.at.accepted)).contents (shown_at t (length done.at.accepted)).sequence) last.1.manifest last.1.stands);
+          (subst (λ (m : ℕ). Stands (folder_of_pin m done.files) (shown_at t (length done.at.accepted)).contents
+          (shown_at t (length done.at.accepted)).sequence) last.1.manifest last.1.stands);
     }
 
-pub cut_listed : (s t : State) (w : Shown) (rule : FlushRule) (cut : Cut) → Step s (event.Cut rule) (reply.Cut (Ok cut)) t → Good w t → ListedStand cut t
+pub cut_listed : (s t : State) (w : Shown) (rule : FlushRule) (cut : Cut) → Step s (event.Cut rule) (reply.Cut (Ok cut)) t
+    → Good w t → ListedStand cut t
 unfolding Step
 cut_listed s t w rule cut step good = cut_stands s t w rule cut (flushing_done cut step) good

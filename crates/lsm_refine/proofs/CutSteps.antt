@@ -49,7 +49,8 @@ cut_step s t rule r step = step
 -- ---- a pin more
 
 -- one pin more that fits
-pins_push : (Fits : KeptPin → Pin → Type 0) (kept : List KeptPin) (pins : List Pin) (k : KeptPin) (pin : Pin) → ArePins Fits kept pins → Fits k pin
+pins_push : (Fits : KeptPin → Pin → Type 0) (kept : List KeptPin) (pins : List Pin) (k : KeptPin) (pin : Pin)
+    → ArePins Fits kept pins → Fits k pin
     → ArePins Fits (kept ++ k ∷ []) (pins ++ pin ∷ [])
 pins_push Fits [] [] k pin are fits = (fits, tt)
 pins_push Fits [] (p ∷ pins) k pin are fits = absurd are
@@ -77,7 +78,8 @@ test_full n large = grind (arith, nat_tests)
 test_room : (n : ℕ) → n < 64 → nat_le 64 n ≡ false
 test_room n small = grind (arith, nat_tests)
 
-pub cut_halted : (v : Shown) (s : State) (good : Good v s) (rule : FlushRule) (first : Halt) → v.halt ≡ Some first → Steps s (event.Cut rule) (reply.Cut (Err (error.Halted first))) v
+pub cut_halted : (v : Shown) (s : State) (good : Good v s) (rule : FlushRule) (first : Halt) → v.halt ≡ Some first
+    → Steps s (event.Cut rule) (reply.Cut (Err (error.Halted first))) v
 cut_halted v s good rule first is = (
   s,
   cut_step s s rule (Err (error.Halted first)) (Usual (Refused (error.Halted first) refl
@@ -86,7 +88,8 @@ cut_halted v s good rule first is = (
 )
 
 -- a rule flushes what is in memory where it does so in the state
-pub flushes_same : (v : Shown) (s : State) (good : Good v s) → IsRunning (state_of good.story) v s → (rule : FlushRule) → does_flush rule s ≡ flushes rule v.kept
+pub flushes_same : (v : Shown) (s : State) (good : Good v s) → IsRunning (state_of good.story) v s → (rule : FlushRule)
+    → does_flush rule s ≡ flushes rule v.kept
 flushes_same v s good run Never = refl
 flushes_same v s good run Always = refl
 flushes_same v s good run (AtLeast bytes) = λ j. nat_le bytes (run.works.frozen_len j + run.works.active_len j)
@@ -95,7 +98,8 @@ module _ (v : Shown) (s : State) (good : Good v s) (none : v.halt ≡ None) wher
   abbrev d : disk.State
   d = state_of good.story
 
-  known_by : (b : Bool) → nat_le 64 (length s.pins) ≡ b → first_of (halted s ∷ pins_full s ∷ []) ≡ first_of (None ∷ refused_if b (error.PinsFull (length s.pins)) ∷ [])
+  known_by : (b : Bool) → nat_le 64 (length s.pins) ≡ b → first_of (halted s ∷ pins_full s ∷ [])
+      ≡ first_of (None ∷ refused_if b (error.PinsFull (length s.pins)) ∷ [])
   known_by b is =
       ap (λ (h : Option Halt). first_of (option_map error.Halted h ∷ pins_full s ∷ [])) (sym good.kept.halt ∙ none)
       ∙ ap (λ (test : Bool). first_of (None ∷ refused_if test (error.PinsFull (length s.pins)) ∷ [])) is
@@ -104,16 +108,19 @@ module _ (v : Shown) (s : State) (good : Good v s) (none : v.halt ≡ None) wher
   count = same_count (IsKeptPin s) v.kept.pins s.pins good.pinned.pins
 
   -- as many pins live as may
-  pub cut_full : (rule : FlushRule) → 64 ≤ length v.kept.pins → Steps s (event.Cut rule) (reply.Cut (Err (error.PinsFull (length v.kept.pins)))) v
+  pub cut_full : (rule : FlushRule) → 64 ≤ length v.kept.pins
+      → Steps s (event.Cut rule) (reply.Cut (Err (error.PinsFull (length v.kept.pins)))) v
   cut_full rule full =
       subst (λ (n : ℕ). Steps s (event.Cut rule) (reply.Cut (Err (error.PinsFull n))) v) count (
         s,
         cut_step s s rule (Err (error.PinsFull (length s.pins)))
-            (Usual (Refused (error.PinsFull (length s.pins)) refl (known_by true (test_full (length s.pins) (omega (arith, full, count)))) refl)),
+            (Usual (Refused (error.PinsFull (length s.pins)) refl
+            (known_by true (test_full (length s.pins) (omega (arith, full, count)))) refl)),
         good,
       )
 
-  module _ (room : length v.kept.pins < 64) (run : IsRunning (state_of good.story) v s) (rule : FlushRule) (stays : flushes rule v.kept ≡ false) where
+  module _ (room : length v.kept.pins < 64) (run : IsRunning (state_of good.story) v s) (rule : FlushRule)
+      (stays : flushes rule v.kept ≡ false) where
     known : first_of (halted s ∷ pins_full s ∷ []) ≡ None
     known = known_by false (test_room (length s.pins) (omega (arith, room, count)))
 
@@ -121,13 +128,19 @@ module _ (v : Shown) (s : State) (good : Good v s) (none : v.halt ≡ None) wher
     flushes_not = flushes_same v s good run rule ∙ stays
 
     -- memory was wanting, and nothing has changed but the disk's counts
-    pub cut_wanting : (w : Shown) → IsUnchanged good.story v w → w.halt ≡ v.halt → v.disk.faults ≤ w.disk.faults → v.disk.refusals ≤ w.disk.refusals
+    pub cut_wanting : (w : Shown) → IsUnchanged good.story v w → w.halt ≡ v.halt → v.disk.faults ≤ w.disk.faults
+        → v.disk.refusals ≤ w.disk.refusals
         → Steps s (event.Cut rule) (reply.Cut (Err error.NoMemory)) w
     cut_wanting w same halt faults refusals =
         let t : State = with_counts w.disk s in
-        let becomes : Becomes s t = record { rest = refl; faults = omega (arith, good.counts.faults, faults); refusals = omega (arith, good.counts.refusals, refusals) } in (
+        let becomes : Becomes s t = record {
+          rest = refl;
+          faults = omega (arith, good.counts.faults, faults);
+          refusals = omega (arith, good.counts.refusals, refusals);
+        } in (
           t,
-          cut_step s t rule (Err error.NoMemory) (Usual (Wanting refl known (subst (λ (b : Bool). MayFlush b s t) (sym flushes_not) becomes))),
+          cut_step s t rule (Err error.NoMemory) (Usual (Wanting refl known
+              (subst (λ (b : Bool). MayFlush b s t) (sym flushes_not) becomes))),
           unchanged_good v w s good same halt,
         )
 
@@ -154,7 +167,8 @@ module _ (v : Shown) (s : State) (good : Good v s) (none : v.halt ≡ None) wher
       new_fits : IsKeptPin t k pin
       new_fits = record {
         number = ap (λ (n : ℕ). n + 1) good.kept.greatest_pin;
-        sequence = good.kept.sequence ∙ ap (λ (l : List (List Op)). sequence_after s.began l) (sym (take_all (length s.accepted) s.accepted (omega arith)));
+        sequence = good.kept.sequence ∙ ap (λ (l : List (List Op)). sequence_after s.began l)
+            (sym (take_all (length s.accepted) s.accepted (omega arith)));
         files = lists.are;
         manifest = refl;
         holder = refl;
@@ -166,7 +180,8 @@ module _ (v : Shown) (s : State) (good : Good v s) (none : v.halt ≡ None) wher
       counted = record {
         durable = good.counted.durable;
         numbers = All-push (λ (p : Pin). p.number ≤ v.kept.greatest_pin + 1) s.pins pin
-            (All-weaker (λ (p : Pin). p.number ≤ s.greatest_pin) (λ (p : Pin). p.number ≤ v.kept.greatest_pin + 1) (λ p few. omega (arith, few, good.kept.greatest_pin)) s.pins good.counted.numbers)
+            (All-weaker (λ (p : Pin). p.number ≤ s.greatest_pin) (λ (p : Pin). p.number ≤ v.kept.greatest_pin + 1)
+            (λ p few. omega (arith, few, good.kept.greatest_pin)) s.pins good.counted.numbers)
             (omega (arith, good.kept.greatest_pin));
         fronts = All-push (λ (p : Pin). p.batches ≤ length s.accepted) s.pins pin good.counted.fronts (omega arith);
         begun = good.counted.begun;
@@ -176,7 +191,8 @@ module _ (v : Shown) (s : State) (good : Good v s) (none : v.halt ≡ None) wher
       quiet_all name fits among = ⊎_elim
           (λ old. run.sane.quiet.spares name fits (inr old))
           (λ new. run.sane.quiet.spares name fits (inl (All-contains (IsNeeded v.kept) (names_held k) name
-          (subst (λ (l : List (FileName × ℕ)). All (IsNeeded v.kept) (map (λ (f : FileName × ℕ). f.0) l)) (sym lists.are) (mapped_names (IsNeeded v.kept) lists.files lists.needed))
+          (subst (λ (l : List (FileName × ℕ)). All (IsNeeded v.kept) (map (λ (f : FileName × ℕ). f.0) l)) (sym lists.are)
+          (mapped_names (IsNeeded v.kept) lists.files lists.needed))
           (subst (λ (l : List FileName). Contains l name) (append-nil (names_held k)) new))))
           (Contains-append_cases (flat_map names_held v.kept.pins) (names_held k ++ []) name
           (subst (λ (l : List FileName). Contains l name) (flat_map-append names_held v.kept.pins (k ∷ [])) among))
@@ -188,19 +204,22 @@ module _ (v : Shown) (s : State) (good : Good v s) (none : v.halt ≡ None) wher
       }
 
       -- the store with the pin is good
-      pub pinned_good : Good (cut_shown cut v) (state_with_pins (s.pins ++ new_pin Caller cut.manifest lists.files s ∷ []) (v.kept.greatest_pin + 1) v.kept.disables s)
+      pub pinned_good : Good (cut_shown cut v) (state_with_pins (s.pins ++ new_pin Caller cut.manifest lists.files s ∷ [])
+          (v.kept.greatest_pin + 1) v.kept.disables s)
       pinned_good =
           repinned_good v s all (s.pins ++ pin ∷ []) (v.kept.greatest_pin + 1) v.kept.disables good
           (pins_push (IsKeptPin t) v.kept.pins s.pins k pin (pins_alike s t refl refl refl v.kept.pins s.pins good.pinned.pins) new_fits)
           (All-push (λ (p : Pin). PinFiles d v.dir p.files) s.pins pin good.pinned.files lists.there) counted (λ r. (quiet_all, jobs_all))
 
       -- Ok
-      pub cut_ok : cut.pin ≡ v.kept.greatest_pin + 1 → cut.sequence ≡ v.kept.sequence → Steps s (event.Cut rule) (reply.Cut (Ok cut)) (cut_shown cut v)
+      pub cut_ok : cut.pin ≡ v.kept.greatest_pin + 1 → cut.sequence ≡ v.kept.sequence
+          → Steps s (event.Cut rule) (reply.Cut (Ok cut)) (cut_shown cut v)
       cut_ok numbered sequence =
           let is : IsCut s rule cut t = record {
             at = s;
             files = lists.files;
-            flushed = subst (λ (b : Bool). CutsAt b s s) (sym flushes_not) (record { rest = refl; faults = omega arith; refusals = omega arith });
+            flushed = subst (λ (b : Bool). CutsAt b s s) (sym flushes_not)
+                (record { rest = refl; faults = omega arith; refusals = omega arith });
             pin = numbered ∙ ap (λ (n : ℕ). n + 1) good.kept.greatest_pin;
             sequence = sequence ∙ good.kept.sequence;
             lists = lists.are;

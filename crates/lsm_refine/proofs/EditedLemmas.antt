@@ -45,19 +45,23 @@ ends_in_digit x (digit ∷ digits) are other =
 pub manifest_apart : (dir : List ℕ) (n m : ℕ) → IsFileName (Manifest m) → path_in dir (Table n) ≢ path_in dir (Manifest m)
 unfolding spelled
 manifest_apart dir n m fits same =
-    let text : six_digits n ++ codes ".sst" ≡ codes "MANIFEST-" ++ six_digits m = ap (λ (l : List ℕ). drop 1 l) (append_cancel_left dir (47 ∷ spelled (Table n)) (47 ∷ spelled (Manifest m)) same) in
-    ends_in_digit 45 (six_digits m) (six_are_digits m fits) (λ is. omega (arith, is)) (sym (ap last_byte text) ∙ last_byte-append (six_digits n) 46 (codes "sst"))
+    let text : six_digits n ++ codes ".sst" ≡ codes "MANIFEST-" ++ six_digits m =
+    ap (λ (l : List ℕ). drop 1 l) (append_cancel_left dir (47 ∷ spelled (Table n)) (47 ∷ spelled (Manifest m)) same) in
+    ends_in_digit 45 (six_digits m) (six_are_digits m fits) (λ is. omega (arith, is))
+    (sym (ap last_byte text) ∙ last_byte-append (six_digits n) 46 (codes "sst"))
 
 -- ---- what the edits say
 
 -- the store whose manifest has one edit more keeps what the edits say
 pub edited_has : (later : State) (dir : List ℕ) (kept : Kept) (edits : List Edit) (edit : Edit) → AreEdits (edits ++ edit ∷ [])
-    → IsWholeFile later (path_in dir (Manifest kept.manifest)) (manifest_text (edits ++ edit ∷ [])) → HasEdits later dir (edited_kept (edits ++ edit ∷ []) kept) (edits ++ edit ∷ [])
+    → IsWholeFile later (path_in dir (Manifest kept.manifest)) (manifest_text (edits ++ edit ∷ []))
+    → HasEdits later dir (edited_kept (edits ++ edit ∷ []) kept) (edits ++ edit ∷ [])
 edited_has later dir kept edits edit are whole = record { are = are; file = whole; len = refl; version = refl; log = refl; last = refl }
 
 -- ---- lists of paths
 
-pub both_all : {X Y : Type 0} (P : Y → Type 0) (f : X → Y) (xs : List X) (ys : List Y) → All P (map f xs ++ ys) → All (λ (x : X). P (f x)) xs × All P ys
+pub both_all : {X Y : Type 0} (P : Y → Type 0) (f : X → Y) (xs : List X) (ys : List Y) → All P (map f xs ++ ys)
+    → All (λ (x : X). P (f x)) xs × All P ys
 both_all P f [] ys each = (All-nil (λ x. P (f x)), each)
 both_all P f (x ∷ xs) ys each =
     let rest = both_all P f xs ys (All-tail P (f x) (map f xs ++ ys) each) in
@@ -65,8 +69,10 @@ both_all P f (x ∷ xs) ys each =
 
 -- ---- what is ready for an edit
 
-module _ (d : State) (dir : List ℕ) (before : Kept) (was : Parts) (sane : Sane d dir before was) (kept : Kept) (parts : Parts) (rest : KeepsTheRest before kept)
-    (tables : HasTables d dir kept parts.rows) (logs : HasLogs d dir kept parts) (last : parts.last.number ≡ was.last.number) (lawful : AreLawful parts.edits parts.rows)
+module _ (d : State) (dir : List ℕ) (before : Kept) (was : Parts) (sane : Sane d dir before was) (kept : Kept) (parts : Parts)
+    (rest : KeepsTheRest before kept)
+    (tables : HasTables d dir kept parts.rows) (logs : HasLogs d dir kept parts) (last : parts.last.number ≡ was.last.number)
+    (lawful : AreLawful parts.edits parts.rows)
     (quiet : AreNewQuiet d dir before kept) where
   current : IsCurrent d dir kept
   current = record {
@@ -115,14 +121,18 @@ module _ (d : State) (dir : List ℕ) (before : Kept) (was : Parts) (sane : Sane
   Given table = bytes_at (tree_now d) (table_path table) ≡ Some table.bytes
 
   among_before : (P : Unfinished → Type 0) → All P before.unfinished → All P kept.unfinished
-  among_before P each = All-weaker (Contains before.unfinished) P (λ table among. All-contains P before.unfinished table each among) kept.unfinished rest.unfinished
+  among_before P each = All-weaker (Contains before.unfinished) P
+      (λ table among. All-contains P before.unfinished table each among) kept.unfinished rest.unfinished
 
   alone : All (IsAlone d) (appended_to dir kept parts.last.number)
   alone =
-      let each : All (IsAlone d) (log_path was.last.number ∷ behind before) = All-tail (IsAlone d) (manifest_path before.manifest) (log_path was.last.number ∷ behind before) sane.written.alone in
-      let ends = both_all (IsAlone d) table_path before.unfinished (in_hand before.begun before.hand) (All-tail (IsAlone d) (log_path was.last.number) (behind before) each) in
+      let each : All (IsAlone d) (log_path was.last.number ∷ behind before) =
+      All-tail (IsAlone d) (manifest_path before.manifest) (log_path was.last.number ∷ behind before) sane.written.alone in
+      let ends = both_all (IsAlone d) table_path before.unfinished (in_hand before.begun before.hand)
+      (All-tail (IsAlone d) (log_path was.last.number) (behind before) each) in
       All-cons (IsAlone d) (manifest_path kept.manifest) (log_path parts.last.number ∷ behind kept)
-      (subst (λ (n : ℕ). IsAlone d (manifest_path n)) (sym rest.manifest) (All-head (IsAlone d) (manifest_path before.manifest) (log_path was.last.number ∷ behind before) sane.written.alone))
+      (subst (λ (n : ℕ). IsAlone d (manifest_path n)) (sym rest.manifest)
+      (All-head (IsAlone d) (manifest_path before.manifest) (log_path was.last.number ∷ behind before) sane.written.alone))
       (All-cons (IsAlone d) (log_path parts.last.number) (behind kept)
       (subst (λ (n : ℕ). IsAlone d (log_path n)) (sym last) (All-head (IsAlone d) (log_path was.last.number) (behind before) each))
       (All-append (IsAlone d) (map table_path kept.unfinished) (in_hand kept.begun kept.hand)
@@ -131,7 +141,8 @@ module _ (d : State) (dir : List ℕ) (before : Kept) (was : Parts) (sane : Sane
     where
       hand_alone : All (IsAlone d) (in_hand before.begun before.hand) → All (IsAlone d) (in_hand kept.begun kept.hand)
       hand_alone are =
-          subst (λ b. All (IsAlone d) (in_hand b kept.hand)) (sym rest.begun) (subst (λ h. All (IsAlone d) (in_hand before.begun h)) (sym rest.hand) are)
+          subst (λ b. All (IsAlone d) (in_hand b kept.hand)) (sym rest.begun)
+          (subst (λ h. All (IsAlone d) (in_hand before.begun h)) (sym rest.hand) are)
 
   -- but for the manifest all is as it is kept then
   pub edit_ready : SaneBeside d dir kept parts (Manifest kept.manifest)
@@ -148,19 +159,25 @@ module _ (d : State) (dir : List ℕ) (before : Kept) (was : Parts) (sane : Sane
       frozen = logs.frozen;
     };
     last = λ other. logs.last;
-    quiet = record { spares = λ name fits is. ⊎_elim (λ needed. needed_quiet name fits needed) (λ pin. sane.quiet.spares name fits (inr (pinned name pin))) is };
+    quiet = record {
+      spares = λ name fits is. ⊎_elim (λ needed. needed_quiet name fits needed)
+          (λ pin. sane.quiet.spares name fits (inr (pinned name pin))) is;
+    };
     known = known;
     files = sane.files;
     lawful = lawful;
-    given = All-weaker Given (IsGiven d dir (Manifest kept.manifest)) (λ table has differs. has) kept.unfinished (among_before Given sane.written.tables);
+    given = All-weaker Given (IsGiven d dir (Manifest kept.manifest)) (λ table has differs. has) kept.unfinished
+        (among_before Given sane.written.tables);
     alone = alone;
-    restored = subst (λ b. RestoreBuilds d dir b kept.hand) (sym rest.begun) (subst (λ h. RestoreBuilds d dir before.begun h) (sym rest.hand) sane.restored);
+    restored = subst (λ b. RestoreBuilds d dir b kept.hand) (sym rest.begun)
+        (subst (λ h. RestoreBuilds d dir before.begun h) (sym rest.hand) sane.restored);
   }
 
 -- ---- the manifest is written
 
 module _ (d : State) (dir : List ℕ) (kept : Kept) (parts : Parts) (is : SaneBeside d dir kept parts (Manifest kept.manifest))
-    (active : AreRowsOf (first_in_last parts) parts.last.batches kept.active) (later : State) (writes : WritesAt dir (Manifest kept.manifest) d later)
+    (active : AreRowsOf (first_in_last parts) parts.last.batches kept.active) (later : State)
+    (writes : WritesAt dir (Manifest kept.manifest) d later)
     (edits : HasEdits later dir kept parts.edits) where
   abbrev name : FileName
   name = Manifest kept.manifest
@@ -169,7 +186,8 @@ module _ (d : State) (dir : List ℕ) (kept : Kept) (parts : Parts) (is : SaneBe
   log_differs number same = cc
 
   others : All (λ (log : LogPart). IsFileName (Log log.number) × (Log log.number ≢ Manifest kept.manifest)) parts.older
-  others = All-weaker (IsOlder kept parts.last.number) (λ (log : LogPart). IsFileName (Log log.number) × (Log log.number ≢ Manifest kept.manifest))
+  others = All-weaker (IsOlder kept parts.last.number) (λ (log : LogPart). IsFileName (Log log.number)
+      × (Log log.number ≢ Manifest kept.manifest))
       (λ log older. (older.0, log_differs log.number)) parts.older (older_are d dir kept parts is.logs)
 
   same_file : (path : List ℕ) → file_at later path ≡ file_at d path
@@ -182,12 +200,14 @@ module _ (d : State) (dir : List ℕ) (kept : Kept) (parts : Parts) (is : SaneBe
   manifest_sane = record {
     current = current_at dir name is.current.named is.current.numbered d later writes.at kept (λ same. cc) is.current;
     edits = edits;
-    tables = tables_at dir name is.current.named is.current.numbered d later writes.at kept parts.rows (λ number placed found same. cc) is.tables;
+    tables = tables_at dir name is.current.named is.current.numbered d later writes.at kept parts.rows
+        (λ number placed found same. cc) is.tables;
     logs = record {
       numbers = is.logs.numbers;
       ascend = is.logs.ascend;
       live = is.logs.live;
-      older = synced_at dir name is.current.named is.current.numbered d later writes.at (first_logged parts) parts.older others is.logs.older;
+      older = synced_at dir name is.current.named is.current.numbered d later writes.at
+          (first_logged parts) parts.older others is.logs.older;
       last = wal_at dir name is.current.named is.current.numbered d later writes.at parts.last.number _ _
           (last_is d dir kept parts is.logs).1 (log_differs parts.last.number) (is.last (λ same. cc));
       only = λ number least fits. only_still number (is.logs.only number least fits);
@@ -197,22 +217,27 @@ module _ (d : State) (dir : List ℕ) (kept : Kept) (parts : Parts) (is : SaneBe
     quiet = record { spares = λ other fits held. writes.quiet (path_in dir other) (is.quiet.spares other fits held) };
     known = record {
       there = λ other among. let was = is.known.there other among in (was.0, ap is_some (same_file (path_in dir other)) ∙ was.1);
-      all = λ other fits there. is.known.all other fits (ap (λ (names : Names). is_some (finmap.get names (path_in dir other))) (sym writes.names) ∙ there);
+      all = λ other fits there. is.known.all other fits (ap (λ (names : Names). is_some (finmap.get names (path_in dir other)))
+          (sym writes.names) ∙ there);
     };
     files = files_at dir name is.current.named is.current.numbered d later writes.at is.files;
     lawful = is.lawful;
     written = record {
-      tables = All-weaker (IsGiven d dir name) (λ (table : Unfinished). bytes_at (tree_now later) (path_in dir (Table table.number)) ≡ Some table.bytes)
+      tables = All-weaker (IsGiven d dir name) (λ (table : Unfinished). bytes_at (tree_now later)
+          (path_in dir (Table table.number)) ≡ Some table.bytes)
           (λ table given. let differs = manifest_apart dir table.number kept.manifest is.current.numbered in
-          bytes_stay (path_in dir name) d later writes.at (path_in dir (Table table.number)) differs table.bytes (given differs)) kept.unfinished is.given;
+          bytes_stay (path_in dir name) d later writes.at (path_in dir (Table table.number)) differs table.bytes
+          (given differs)) kept.unfinished is.given;
       alone = All-weaker (IsAlone d) (IsAlone later) writes.at.alone (appended_to dir kept parts.last.number) is.alone;
     };
     restored = restored_at dir name is.current.named is.current.numbered d later writes.at is.files kept.begun kept.hand is.restored;
   }
 
 -- both
-pub edited_sane : (d : State) (dir : List ℕ) (before : Kept) (was : Parts) → Sane d dir before was → (kept : Kept) (parts : Parts) → KeepsTheRest before kept
-    → HasTables d dir kept parts.rows → HasLogs d dir kept parts → parts.last.number ≡ was.last.number → AreLawful parts.edits parts.rows → AreNewQuiet d dir before kept
+pub edited_sane : (d : State) (dir : List ℕ) (before : Kept) (was : Parts) → Sane d dir before was
+    → (kept : Kept) (parts : Parts) → KeepsTheRest before kept
+    → HasTables d dir kept parts.rows → HasLogs d dir kept parts → parts.last.number ≡ was.last.number
+    → AreLawful parts.edits parts.rows → AreNewQuiet d dir before kept
     → (later : State) → WritesAt dir (Manifest kept.manifest) d later → HasEdits later dir kept parts.edits → Sane later dir kept parts
 edited_sane d dir before was sane kept parts rest tables logs last lawful quiet later writes edits =
     manifest_sane d dir kept parts (edit_ready d dir before was sane kept parts rest tables logs last lawful quiet) logs.active later writes edits

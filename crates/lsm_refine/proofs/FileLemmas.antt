@@ -25,13 +25,16 @@ whole_image d path bytes whole t i =
     has.is ∙ ap Some (cut_sure (record { synced = []; unsynced = bytes }) has.bytes has.cut)
 
 -- operations that don't touch a name leave it
-spared : (path : List ℕ) (ops : List NameOp) (names : Names) → All (OpSpares path) ops → finmap.get (all_named ops names) path ≡ finmap.get names path
+spared : (path : List ℕ) (ops : List NameOp) (names : Names) → All (OpSpares path) ops
+    → finmap.get (all_named ops names) path ≡ finmap.get names path
 spared path [] names each = refl
 spared path (op ∷ ops) names each =
-    spared path ops (named op names) (All-tail (OpSpares path) op ops each) ∙ get_spared path op names (All-head (OpSpares path) op ops each)
+    spared path ops (named op names) (All-tail (OpSpares path) op ops each) ∙ get_spared path op names
+    (All-head (OpSpares path) op ops each)
 
 -- where no operation that may be undone touches a name, it is in each image as it is now
-pub quiet_image : (d : State) (path : List ℕ) → All (OpSpares path) d.pending → (t : Tree) → IsImage d t → finmap.get t.names path ≡ finmap.get (names_now d) path
+pub quiet_image : (d : State) (path : List ℕ) → All (OpSpares path) d.pending → (t : Tree) → IsImage d t
+    → finmap.get t.names path ≡ finmap.get (names_now d) path
 quiet_image d path each t i =
     ap (λ (names : Names). finmap.get names path) i.names
     ∙ spared path (take i.kept d.pending) d.durable (All-take (OpSpares path) i.kept d.pending each)
@@ -40,14 +43,18 @@ quiet_image d path each t i =
 -- ---- in the folder
 
 -- a file of the folder has the bytes that its path has
-pub file_there : (dir : List ℕ) (t : Tree) (name : FileName) (bytes : List ℕ) → 1 ≤ length dir → IsFileName name → bytes_at t (path_in dir name) ≡ Some bytes → file_at (files_in dir t) name ≡ Some bytes
+pub file_there : (dir : List ℕ) (t : Tree) (name : FileName) (bytes : List ℕ) → 1 ≤ length dir → IsFileName name
+    → bytes_at t (path_in dir name) ≡ Some bytes → file_at (files_in dir t) name ≡ Some bytes
 file_there dir t name bytes some fits is = ap bytes_in (file_is dir t name bytes some fits is)
 
 -- where no file has the path the folder has none of the name
-pub file_gone : (dir : List ℕ) (t : Tree) (name : FileName) → 1 ≤ length dir → IsFileName name → id_of (finmap.get t.names (path_in dir name)) ≡ None → file_at (files_in dir t) name ≡ None
-file_gone dir t name some fits is = ap bytes_in (files_are dir t name some fits) ∙ no_file t.contents (finmap.get t.names (path_in dir name)) is
+pub file_gone : (dir : List ℕ) (t : Tree) (name : FileName) → 1 ≤ length dir → IsFileName name
+    → id_of (finmap.get t.names (path_in dir name)) ≡ None → file_at (files_in dir t) name ≡ None
+file_gone dir t name some fits is = ap bytes_in (files_are dir t name some fits) ∙ no_file t.contents
+    (finmap.get t.names (path_in dir name)) is
 
-none_by : (dir : List ℕ) (t : Tree) (name : FileName) (item : Option Item) → 1 ≤ length dir → ¬ IsFileName name → finmap.get (files_in dir t) name ≡ item → bytes_in item ≡ None
+none_by : (dir : List ℕ) (t : Tree) (name : FileName) (item : Option Item) → 1 ≤ length dir → ¬ IsFileName name
+    → finmap.get (files_in dir t) name ≡ item → bytes_in item ≡ None
 none_by dir t name None some never is = refl
 none_by dir t name (Some item) some never is = absurd (never (file_names dir t name item some is))
 

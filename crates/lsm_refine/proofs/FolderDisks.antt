@@ -32,7 +32,8 @@ use Rattle.lsm_names.proofs.FolderLemmas.{bytes_of_folder}
 find_here : (path : List ℕ) (node : Node) (es : List (List ℕ × Node)) → finmap.find path_cmp path ((path, node) ∷ es) ≡ Some node
 find_here path node es = ap (λ (b : Bool). cond b (Some node) (finmap.find path_cmp path es)) (path_itself path)
 
-find_later : (path : List ℕ) (e : List ℕ × Node) (es : List (List ℕ × Node)) → path ≢ e.0 → finmap.find path_cmp path (e ∷ es) ≡ finmap.find path_cmp path es
+find_later : (path : List ℕ) (e : List ℕ × Node) (es : List (List ℕ × Node)) → path ≢ e.0
+    → finmap.find path_cmp path (e ∷ es) ≡ finmap.find path_cmp path es
 find_later path e es differ = ap (λ (b : Bool). cond b (Some e.1) (finmap.find path_cmp path es)) (path_other path e.0 differ)
 
 -- ---- slashes
@@ -42,7 +43,8 @@ has_slash path = list_any (λ (byte : ℕ). byte == 47) path
 
 pub slash_inside : (front rest : List ℕ) → has_slash (front ++ 47 ∷ rest) ≡ true
 slash_inside [] rest = refl
-slash_inside (byte ∷ front) rest = elim (byte == 47) as (λ b. (b || has_slash (front ++ 47 ∷ rest)) ≡ true) [ true ↦ refl | false ↦ slash_inside front rest ]
+slash_inside (byte ∷ front) rest = elim (byte == 47) as (λ b. (b || has_slash (front ++ 47 ∷ rest))
+    ≡ true) [ true ↦ refl | false ↦ slash_inside front rest ]
 
 same_number : (m n : ℕ) → (m == n) ≡ true → m ≡ n
 same_number m n same = grind (arith, nat_tests)
@@ -51,7 +53,8 @@ same_number m n same = grind (arith, nat_tests)
 no_slash : (byte : ℕ) → is_folder_byte byte ≡ true → (byte == 47) ≡ false
 unfolding is_folder_byte is_small_letter_or_digit
 no_slash byte fits = elim (byte == 47) as (λ b. (byte == 47) ≡ b → (byte == 47) ≡ false) [
-  | true ↦ λ same. let is : byte ≡ 47 = same_number byte 47 same in let clash : false ≡ true = sym (ap is_folder_byte is) ∙ fits in absurd (cc)
+  | true ↦ λ same. let is : byte ≡ 47 = same_number byte 47 same in let clash : false ≡ true =
+      sym (ap is_folder_byte is) ∙ fits in absurd (cc)
   | false ↦ λ other. other
 ] refl
 
@@ -95,11 +98,13 @@ record IsPart (dir : List ℕ) (first : ℕ) (parts : List Part) (path : List �
 node_once : (x y : Node) → Some x ≡ Some y → x ≡ y
 node_once x y same = cc
 
-part_found : (dir : List ℕ) (first : ℕ) (parts : List Part) (path : List ℕ) (node : Node) → finmap.find path_cmp path (nodes_from dir first parts) ≡ Some node → IsPart dir first parts path node
+part_found : (dir : List ℕ) (first : ℕ) (parts : List Part) (path : List ℕ) (node : Node)
+    → finmap.find path_cmp path (nodes_from dir first parts) ≡ Some node → IsPart dir first parts path node
 part_found dir first [] path node is = absurd (cc)
 part_found dir first (part ∷ parts) path node is =
     elim (eq_by_cmp path_cmp path (path_in dir part.name)) as (λ b. eq_by_cmp path_cmp path (path_in dir part.name) ≡ b
-    → cond b (Some (File_node first)) (finmap.find path_cmp path (nodes_from dir (first + 1) parts)) ≡ Some node → IsPart dir first (part ∷ parts) path node) [
+    → cond b (Some (File_node first)) (finmap.find path_cmp path (nodes_from dir (first + 1) parts)) ≡ Some node
+    → IsPart dir first (part ∷ parts) path node) [
       | true ↦ λ same h. record {
         index = 0;
         part = part;
@@ -124,12 +129,14 @@ abbrev pub AreApart : List Part → Type 0
 AreApart [] = Unit {0}
 AreApart (part ∷ parts) = All (λ (name : FileName). spelled part.name ≢ spelled name) (names_of parts) × AreApart parts
 
-part_differs : (name : FileName) (parts : List Part) (index : ℕ) (part : Part) → All (λ (other : FileName). spelled name ≢ spelled other) (names_of parts) → slice_get parts index ≡ Some part
+part_differs : (name : FileName) (parts : List Part) (index : ℕ) (part : Part)
+    → All (λ (other : FileName). spelled name ≢ spelled other) (names_of parts) → slice_get parts index ≡ Some part
     → spelled name ≢ spelled part.name
 part_differs name [] index part each at = absurd (cc)
 part_differs name (first ∷ parts) zero part each at =
     let same : first ≡ part = cc in
-    subst (λ (p : Part). spelled name ≢ spelled p.name) same (All-head (λ (other : FileName). spelled name ≢ spelled other) first.name (names_of parts) each)
+    subst (λ (p : Part). spelled name ≢ spelled p.name) same
+    (All-head (λ (other : FileName). spelled name ≢ spelled other) first.name (names_of parts) each)
 part_differs name (first ∷ parts) (suc index) part each at =
     part_differs name parts index part (All-tail (λ (other : FileName). spelled name ≢ spelled other) first.name (names_of parts) each) at
 
@@ -149,19 +156,23 @@ part_there dir first (p ∷ parts) zero part are at =
     ∙ ap (λ (n : ℕ). Some (File_node n)) (omega arith)
 part_there dir first (p ∷ parts) (suc index) part are at =
     let differ : spelled p.name ≢ spelled part.name = part_differs p.name parts index part are.0 at in
-    find_later (path_in dir part.name) (path_in dir p.name, File_node first) (nodes_from dir (first + 1) parts) (apart dir (spelled part.name) (spelled p.name) (λ same. differ (sym same)))
+    find_later (path_in dir part.name) (path_in dir p.name, File_node first) (nodes_from dir (first + 1) parts)
+    (apart dir (spelled part.name) (spelled p.name) (λ same. differ (sym same)))
     ∙ part_there dir (first + 1) parts index part are.1 at
     ∙ ap (λ (n : ℕ). Some (File_node n)) (omega arith)
 
-none_there : (dir : List ℕ) (first : ℕ) (parts : List Part) (name : FileName) → All (λ (other : FileName). spelled name ≢ spelled other) (names_of parts)
+none_there : (dir : List ℕ) (first : ℕ) (parts : List Part) (name : FileName)
+    → All (λ (other : FileName). spelled name ≢ spelled other) (names_of parts)
     → finmap.find path_cmp (path_in dir name) (nodes_from dir first parts) ≡ None
 none_there dir first [] name each = refl
 none_there dir first (part ∷ parts) name each =
     find_later (path_in dir name) (path_in dir part.name, File_node first) (nodes_from dir (first + 1) parts)
-    (apart dir (spelled name) (spelled part.name) (All-head (λ (other : FileName). spelled name ≢ spelled other) part.name (names_of parts) each))
+    (apart dir (spelled name) (spelled part.name) (All-head (λ (other : FileName). spelled name ≢ spelled other) part.name
+    (names_of parts) each))
     ∙ none_there dir (first + 1) parts name (All-tail (λ (other : FileName). spelled name ≢ spelled other) part.name (names_of parts) each)
 
-sealed_there : (parts : List Part) (index : ℕ) (part : Part) → slice_get parts index ≡ Some part → slice_get (map (λ (p : Part). sealed p.bytes) parts) index ≡ Some (sealed part.bytes)
+sealed_there : (parts : List Part) (index : ℕ) (part : Part) → slice_get parts index ≡ Some part
+    → slice_get (map (λ (p : Part). sealed p.bytes) parts) index ≡ Some (sealed part.bytes)
 sealed_there [] index part at = absurd (cc)
 sealed_there (first ∷ parts) zero part at = let same : first ≡ part = cc in ap (λ (p : Part). Some (sealed p.bytes)) same
 sealed_there (first ∷ parts) (suc index) part at = sealed_there parts index part at
@@ -171,12 +182,14 @@ all_synced [] = All-nil (λ (f : FileState). f.unsynced ≡ [])
 all_synced (part ∷ parts) =
     All-cons (λ (f : FileState). f.unsynced ≡ []) (sealed part.bytes) (map (λ (p : Part). sealed p.bytes) parts) refl (all_synced parts)
 
-name_of_part : (parts : List Part) (index : ℕ) (part : Part) → All IsFileName (names_of parts) → slice_get parts index ≡ Some part → IsFileName part.name
+name_of_part : (parts : List Part) (index : ℕ) (part : Part) → All IsFileName (names_of parts)
+    → slice_get parts index ≡ Some part → IsFileName part.name
 name_of_part [] index part each at = absurd (cc)
 name_of_part (first ∷ parts) zero part each at =
     let same : first ≡ part = cc in
     subst (λ (p : Part). IsFileName p.name) same (All-head IsFileName first.name (names_of parts) each)
-name_of_part (first ∷ parts) (suc index) part each at = name_of_part parts index part (All-tail IsFileName first.name (names_of parts) each) at
+name_of_part (first ∷ parts) (suc index) part each at = name_of_part parts index part
+    (All-tail IsFileName first.name (names_of parts) each) at
 
 -- ---- the disk
 
@@ -193,15 +206,18 @@ module _ (dir : List ℕ) (fits : is_folder_name dir ≡ true) (parts : List Par
   at_rest : (path : List ℕ) (found : Option Node) → finmap.find path_cmp path all_entries ≡ found → IsKeptName d path found
   at_rest path found is k = ap (λ (ops : List NameOp). finmap.get (all_named ops d.durable) path) (take_none k) ∙ get_is path ∙ is
 
-  in_folder : (rest : List ℕ) → finmap.find path_cmp (dir ++ 47 ∷ rest) all_entries ≡ finmap.find path_cmp (dir ++ 47 ∷ rest) (nodes_from dir 0 parts)
+  in_folder : (rest : List ℕ) → finmap.find path_cmp (dir ++ 47 ∷ rest) all_entries
+      ≡ finmap.find path_cmp (dir ++ 47 ∷ rest) (nodes_from dir 0 parts)
   in_folder rest = find_later (dir ++ 47 ∷ rest) (dir, Folder_node) (nodes_from dir 0 parts) (inside dir rest)
 
   pub folder_kept : IsKeptName d dir (Some Folder_node)
   folder_kept = at_rest dir (Some Folder_node) (find_here dir Folder_node (nodes_from dir 0 parts))
 
-  pub part_named : (index : ℕ) (part : Part) → slice_get parts index ≡ Some part → finmap.get d.durable (path_in dir part.name) ≡ Some (File_node index)
+  pub part_named : (index : ℕ) (part : Part) → slice_get parts index ≡ Some part
+      → finmap.get d.durable (path_in dir part.name) ≡ Some (File_node index)
   part_named index part at =
-      get_is (path_in dir part.name) ∙ in_folder (spelled part.name) ∙ part_there dir 0 parts index part are at ∙ ap (λ (n : ℕ). Some (File_node n)) (omega arith)
+      get_is (path_in dir part.name) ∙ in_folder (spelled part.name) ∙ part_there dir 0 parts index part are at ∙ ap
+      (λ (n : ℕ). Some (File_node n)) (omega arith)
 
   pub folder_named : finmap.get d.durable dir ≡ Some Folder_node
   folder_named = get_is dir ∙ find_here dir Folder_node (nodes_from dir 0 parts)
@@ -218,15 +234,18 @@ module _ (dir : List ℕ) (fits : is_folder_name dir ≡ true) (parts : List Par
         };
       }
 
-  pub none_kept : (name : FileName) → All (λ (other : FileName). spelled name ≢ spelled other) (names_of parts) → IsKeptName d (path_in dir name) None
+  pub none_kept : (name : FileName) → All (λ (other : FileName). spelled name ≢ spelled other) (names_of parts)
+      → IsKeptName d (path_in dir name) None
   none_kept name each = at_rest (path_in dir name) None (in_folder (spelled name) ∙ none_there dir 0 parts name each)
 
   -- what a path leads to is the folder or a part of it
-  leads : (k : ℕ) (path : List ℕ) (node : Node) → finmap.get (all_named (take k d.pending) d.durable) path ≡ Some node → ((path ≡ dir) × (node ≡ Folder_node)) ⊎ IsPart dir 0 parts path node
+  leads : (k : ℕ) (path : List ℕ) (node : Node) → finmap.get (all_named (take k d.pending) d.durable) path ≡ Some node
+      → ((path ≡ dir) × (node ≡ Folder_node)) ⊎ IsPart dir 0 parts path node
   leads k path node is =
       let found : finmap.find path_cmp path all_entries ≡ Some node =
       sym (get_is path) ∙ ap (λ (ops : List NameOp). finmap.get (all_named ops d.durable) path) (sym (take_none k)) ∙ is in
-      elim (eq_by_cmp path_cmp path dir) as (λ b. eq_by_cmp path_cmp path dir ≡ b → cond b (Some Folder_node) (finmap.find path_cmp path (nodes_from dir 0 parts)) ≡ Some node
+      elim (eq_by_cmp path_cmp path dir) as (λ b. eq_by_cmp path_cmp path dir ≡ b
+      → cond b (Some Folder_node) (finmap.find path_cmp path (nodes_from dir 0 parts)) ≡ Some node
       → ((path ≡ dir) × (node ≡ Folder_node)) ⊎ IsPart dir 0 parts path node) [
         | true ↦ λ same h. inl (same_path path dir same, sym (node_once Folder_node node h))
         | false ↦ λ other h. inr (part_found dir 0 parts path node h)
@@ -286,12 +305,14 @@ module _ (dir : List ℕ) (fits : is_folder_name dir ≡ true) (parts : List Par
           (λ found. absurd (apart_from name dir (spelled found.part.name) (folder_flat name named) found.path_is))
           (leads 0 name node is)
 
-  pub outside_file : All IsFileName (names_of parts) → (name : List ℕ) (file : FileName) → is_folder_name name ≡ true → name ≢ dir → IsFileName file → finmap.get d.durable (path_in name file) ≡ None
+  pub outside_file : All IsFileName (names_of parts) → (name : List ℕ) (file : FileName) → is_folder_name name ≡ true
+      → name ≢ dir → IsFileName file → finmap.get d.durable (path_in name file) ≡ None
   outside_file each name file named other fitting = by_node (finmap.get d.durable (path_in name file)) refl
     where
       by_node : (node : Option Node) → finmap.get d.durable (path_in name file) ≡ node → node ≡ None
       by_node None is = refl
       by_node (Some node) is = ⊎_elim
           (λ folder. absurd (apart_from dir name (spelled file) (folder_flat dir fits) (sym folder.0)))
-          (λ found. absurd (other (same_folder name dir file found.part.name fitting (name_of_part parts found.index found.part each found.at) found.path_is)))
+          (λ found. absurd (other (same_folder name dir file found.part.name fitting
+          (name_of_part parts found.index found.part each found.at) found.path_is)))
           (leads 0 (path_in name file) node is)

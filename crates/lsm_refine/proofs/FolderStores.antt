@@ -45,17 +45,20 @@ is_false : (b : Bool) → not b ≡ true → b ≡ false
 is_false true is = cc
 is_false false is = refl
 
-one_apart : (name : FileName) (names : List FileName) → IsFileName name → Each IsFileName names → list_all (λ (other : FileName). not (eq_by_cmp name_cmp name other)) names ≡ true
+one_apart : (name : FileName) (names : List FileName) → IsFileName name → Each IsFileName names
+    → list_all (λ (other : FileName). not (eq_by_cmp name_cmp name other)) names ≡ true
     → All (λ (other : FileName). spelled name ≢ spelled other) names
 one_apart name [] fits each test = All-nil (λ (other : FileName). spelled name ≢ spelled other)
 one_apart name (other ∷ names) fits each test =
     let parts = and_parts (not (eq_by_cmp name_cmp name other)) (list_all (λ (n : FileName). not (eq_by_cmp name_cmp name n)) names) test in
-    All-cons (λ (n : FileName). spelled name ≢ spelled n) other names (spelled_apart name other fits each.0 (is_false (eq_by_cmp name_cmp name other) parts.0)) (one_apart name names fits each.1 parts.1)
+    All-cons (λ (n : FileName). spelled name ≢ spelled n) other names
+    (spelled_apart name other fits each.0 (is_false (eq_by_cmp name_cmp name other) parts.0)) (one_apart name names fits each.1 parts.1)
 
 pub apart_by : (parts : List Part) → Each IsFileName (names_of parts) → are_apart (names_of parts) ≡ true → AreApart parts
 apart_by [] each test = tt
 apart_by (part ∷ parts) each test =
-    let tests = and_parts (list_all (λ (other : FileName). not (eq_by_cmp name_cmp part.name other)) (names_of parts)) (are_apart (names_of parts)) test in
+    let tests = and_parts (list_all (λ (other : FileName). not (eq_by_cmp name_cmp part.name other)) (names_of parts))
+    (are_apart (names_of parts)) test in
     (one_apart part.name (names_of parts) each.0 each.1 tests.0, apart_by parts each.1 tests.1)
 
 -- a name is that of a part
@@ -75,7 +78,8 @@ IsLive least logs name = Unit {0}
 
 -- ---- on the disk
 
-module _ (dir : List ℕ) (fits : is_folder_name dir ≡ true) (parts : List Part) (apart : AreApart parts) (each : Each IsFileName (names_of parts)) where
+module _ (dir : List ℕ) (fits : is_folder_name dir ≡ true) (parts : List Part) (apart : AreApart parts)
+    (each : Each IsFileName (names_of parts)) where
   abbrev d : disk.State
   d = folder_disk dir parts
 
@@ -85,13 +89,16 @@ module _ (dir : List ℕ) (fits : is_folder_name dir ≡ true) (parts : List Par
   abbrev Differs : FileName → FileName → Type 0
   Differs name other = spelled name ≢ spelled other
 
-  pub whole_at : (index : ℕ) (name : FileName) (bytes : List ℕ) → slice_get parts index ≡ Some (record { name = name; bytes = bytes }) → IsWholeFile d (path_in dir name) bytes
-  whole_at index name bytes at = let part = part_kept dir fits parts apart index (record { name = name; bytes = bytes }) at in record { id = part.id; file = part.file }
+  pub whole_at : (index : ℕ) (name : FileName) (bytes : List ℕ)
+      → slice_get parts index ≡ Some (record { name = name; bytes = bytes }) → IsWholeFile d (path_in dir name) bytes
+  whole_at index name bytes at = let part = part_kept dir fits parts apart index
+      (record { name = name; bytes = bytes }) at in record { id = part.id; file = part.file }
 
   file_there : (name : FileName) → IsNameOf parts name → is_some (file_at d (path_in dir name)) ≡ true
   file_there name is =
       let part = part_kept dir fits parts apart is.0 is.1 is.2 in
-      subst (λ (n : FileName). is_some (file_at d (path_in dir n)) ≡ true) is.3 (ap is_some (kept_at d (path_in dir is.1.name) part.id (sealed is.1.bytes) part.file))
+      subst (λ (n : FileName). is_some (file_at d (path_in dir n)) ≡ true) is.3
+      (ap is_some (kept_at d (path_in dir is.1.name) part.id (sealed is.1.bytes) part.file))
 
   -- other files aren't there
   none_there : (name : FileName) → All (Differs name) names → finmap.get (names_now d) (path_in dir name) ≡ None
@@ -100,8 +107,11 @@ module _ (dir : List ℕ) (fits : is_folder_name dir ≡ true) (parts : List Par
   pub known_at : (kept : Kept) → kept.known ≡ names → AreKnown d dir kept
   known_at kept known = record {
     there = λ name among.
-        let here = subst (λ (some : List FileName). Contains some name) known among in
-        (All-contains IsFileName names name (each_all IsFileName names each) here, file_there name (All-contains (IsNameOf parts) names name (all_named_so parts) here));
+        let here = subst (λ (some : List FileName). Contains some name) known among in (
+          All-contains IsFileName names name (each_all IsFileName names each) here,
+          file_there name
+              (All-contains (IsNameOf parts) names name (all_named_so parts) here),
+        );
     all = λ name file there. subst (λ (some : List FileName). Contains some name) (sym known) (⊎_elim
         (λ among. among)
         (λ others. let clash : false ≡ true = ap is_some (sym (none_there name others)) ∙ there in absurd (cc))
@@ -114,7 +124,8 @@ module _ (dir : List ℕ) (fits : is_folder_name dir ≡ true) (parts : List Par
   pub quiet_at : (kept : Kept) → IsQuiet d dir kept
   quiet_at kept = record { spares = λ name fits held. All-nil (OpSpares (path_in dir name)) }
 
-  pub logs_at : (kept : Kept) → Each (IsLive kept.log kept.logs) names → (number : ℕ) → kept.log ≤ number → IsFileName (Log number) → MayStand d dir kept number
+  pub logs_at : (kept : Kept) → Each (IsLive kept.log kept.logs) names → (number : ℕ) → kept.log ≤ number
+      → IsFileName (Log number) → MayStand d dir kept number
   logs_at kept live number least file = ⊎_elim
       (λ among. ⊎_elim
       (λ is. inl is)
@@ -124,7 +135,8 @@ module _ (dir : List ℕ) (fits : is_folder_name dir ≡ true) (parts : List Par
       (among_or_not names (Log number) (each_all IsFileName names each) file)
 
   -- a log that is neither live nor lower isn't there
-  pub log_gone : (least : ℕ) (logs : List ℕ) → Each (IsLive least logs) names → (number : ℕ) → least ≤ number → IsFileName (Log number) → (Contains logs number → ⊥)
+  pub log_gone : (least : ℕ) (logs : List ℕ) → Each (IsLive least logs) names → (number : ℕ) → least ≤ number
+      → IsFileName (Log number) → (Contains logs number → ⊥)
       → finmap.get (names_now d) (path_in dir (Log number)) ≡ None
   log_gone least logs live number few file other = ⊎_elim
       (λ among. ⊎_elim

@@ -31,16 +31,20 @@ use Rattle.lsm_refine.proofs.SettledLemmas.{none_pending, one_image}
 
 clear_image : (d : disk.State) → AreClearable d → (t : Tree) → IsImage d t → IsClearable t.names
 clear_image d clear t image = record {
-  no_file = λ dir id named is. clear.no_file dir image.kept id named (ap (λ (names : Names). finmap.get names (built_in dir)) (sym image.names) ∙ is);
-  no_folder = λ dir rest named is. clear.no_folder dir rest image.kept named (ap (λ (names : Names). finmap.get names (built_in dir ++ 47 ∷ rest)) (sym image.names) ∙ is);
+  no_file = λ dir id named is. clear.no_file dir image.kept id named
+      (ap (λ (names : Names). finmap.get names (built_in dir)) (sym image.names) ∙ is);
+  no_folder = λ dir rest named is. clear.no_folder dir rest image.kept named
+      (ap (λ (names : Names). finmap.get names (built_in dir ++ 47 ∷ rest)) (sym image.names) ∙ is);
 }
 
 clear_settled : (d : disk.State) → IsSettled d → IsClearable (tree_now d).names → AreClearable d
 clear_settled d settled clear = record {
   no_file = λ dir k id named is.
-      clear.no_file dir id named (ap (λ (ops : List NameOp). finmap.get (all_named ops d.durable) (built_in dir)) (sym (none_pending d settled k)) ∙ is);
+      clear.no_file dir id named (ap (λ (ops : List NameOp). finmap.get (all_named ops d.durable) (built_in dir))
+      (sym (none_pending d settled k)) ∙ is);
   no_folder = λ dir rest k named is.
-      clear.no_folder dir rest named (ap (λ (ops : List NameOp). finmap.get (all_named ops d.durable) (built_in dir ++ 47 ∷ rest)) (sym (none_pending d settled k)) ∙ is);
+      clear.no_folder dir rest named (ap (λ (ops : List NameOp). finmap.get (all_named ops d.durable)
+      (built_in dir ++ 47 ∷ rest)) (sym (none_pending d settled k)) ∙ is);
 }
 
 -- ---- what a crash leaves of a good store
@@ -109,7 +113,8 @@ module _ (d : disk.State) (s : State) (found : IsFound d s) (t : Tree) (image : 
 -- ---- what is found of it on a settled disk
 
 -- there each listed folder reads so in each image
-module _ (d : disk.State) (settled : IsSettled d) (own : List ℕ) (folders : List FolderRead) (are : FoldersAre own folders (tree_now d)) where
+module _ (d : disk.State) (settled : IsSettled d) (own : List ℕ) (folders : List FolderRead)
+    (are : FoldersAre own folders (tree_now d)) where
   settled_sure : (name : List ℕ) (folder : FolderRead) → folder_of name folders ≡ Some folder → IsSure d folder
   settled_sure name folder found =
       let entry = listed own name folder folders are.only found in
@@ -153,7 +158,8 @@ IsOther own folder = (is_folder_name folder.name ≡ true) × (folder.name ≢ o
 folder_marked : (name : List ℕ) (folders : List FolderRead) → folder_of name (marked folders) ≡ option_map mark (folder_of name folders)
 folder_marked name [] = refl
 folder_marked name (folder ∷ folders) =
-    elim (bytes_eq folder.name name) as (λ b. cond b (Some (mark folder)) (folder_of name (marked folders)) ≡ option_map mark (cond b (Some folder) (folder_of name folders))) [
+    elim (bytes_eq folder.name name) as (λ b. cond b (Some (mark folder)) (folder_of name (marked folders))
+    ≡ option_map mark (cond b (Some folder) (folder_of name folders))) [
       | true ↦ refl
       | false ↦ folder_marked name folders
     ]
@@ -161,11 +167,13 @@ folder_marked name (folder ∷ folders) =
 others_marked : (own : List ℕ) (folders : List FolderRead) → All (IsOther own) folders → All (IsOther own) (marked folders)
 others_marked own [] each = All-nil (IsOther own)
 others_marked own (folder ∷ folders) each =
-    All-cons (IsOther own) (mark folder) (marked folders) (All-head (IsOther own) folder folders each) (others_marked own folders (All-tail (IsOther own) folder folders each))
+    All-cons (IsOther own) (mark folder) (marked folders) (All-head (IsOther own) folder folders each)
+    (others_marked own folders (All-tail (IsOther own) folder folders each))
 
 all_marked : (folders : List FolderRead) → All (λ (folder : FolderRead). folder.sure ≡ true) (marked folders)
 all_marked [] = All-nil (λ (folder : FolderRead). folder.sure ≡ true)
-all_marked (folder ∷ folders) = All-cons (λ (folder : FolderRead). folder.sure ≡ true) (mark folder) (marked folders) refl (all_marked folders)
+all_marked (folder ∷ folders) = All-cons (λ (folder : FolderRead). folder.sure ≡ true) (mark folder) (marked folders) refl
+    (all_marked folders)
 
 same_reading : (name : List ℕ) (found : Option FolderRead) → known_reading name (option_map mark found) ≡ known_reading name found
 same_reading name None = refl
@@ -178,7 +186,8 @@ same_there (Some folder) = refl
 folders_marked : (own : List ℕ) (folders : List FolderRead) (t : Tree) → FoldersAre own folders t → FoldersAre own (marked folders) t
 folders_marked own folders t are = record {
   only = others_marked own folders are.only;
-  reads = λ name named other. are.reads name named other ∙ sym (ap (known_reading name) (folder_marked name folders) ∙ same_reading name (folder_of name folders));
+  reads = λ name named other. are.reads name named other ∙ sym
+      (ap (known_reading name) (folder_marked name folders) ∙ same_reading name (folder_of name folders));
   taken = λ name named other. ap is_some (folder_marked name folders) ∙ same_there (folder_of name folders) ∙ are.taken name named other;
 }
 
@@ -207,7 +216,11 @@ module _ (s : State) (t : Tree) (is : IsLeftOf s t) where
       folders = keeps_marked s.folders is.left.folders is.crashed.folders;
       rest = ap (λ (q : State). record q { folders = marked is.left.folders }) is.crashed.rest;
     };
-    holds = record { own = held_by is.holds.own; others = folders_marked is.left.own is.left.folders t is.holds.others; clear = is.holds.clear };
+    holds = record {
+      own = held_by is.holds.own;
+      others = folders_marked is.left.own is.left.folders t is.holds.others;
+      clear = is.holds.clear;
+    };
   }
 
   pub mark_sure : All (λ (folder : FolderRead). folder.sure ≡ true) mark_left.left.folders

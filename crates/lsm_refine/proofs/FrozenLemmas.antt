@@ -75,8 +75,10 @@ pub no_older : (d : disk.State) (v : Shown) (s : State) (run : IsRunning d v s) 
 no_older d v s run none =
     none_in d v.dir (first_logged run.parts) run.parts.older run.sane.logs.older (none_of _ v.kept.frozen run.sane.logs.frozen.same none)
 
-module _ (v : Shown) (s : State) (good : Good v s) (run : IsRunning (state_of good.story) v s) (x : disk.State) (writes : WritesAt v.dir (Log run.parts.last.number) (state_of good.story) x)
-    (wal : HasLast x v.dir run.parts (length run.parts.last.batches)) (lawful : IsLawful x) (fits : IsFileName (Log v.kept.next)) (drawn : All (IsDrawn v.kept.next) v.kept.known) where
+module _ (v : Shown) (s : State) (good : Good v s) (run : IsRunning (state_of good.story) v s) (x : disk.State)
+    (writes : WritesAt v.dir (Log run.parts.last.number) (state_of good.story) x)
+    (wal : HasLast x v.dir run.parts (length run.parts.last.batches)) (lawful : IsLawful x)
+    (fits : IsFileName (Log v.kept.next)) (drawn : All (IsDrawn v.kept.next) v.kept.known) where
   abbrev parts : Parts
   parts = run.parts
 
@@ -130,11 +132,16 @@ module _ (v : Shown) (s : State) (good : Good v s) (run : IsRunning (state_of go
   earlier : (number id : ℕ) → IsLive v.kept number → file_at x (path_in v.dir (Log number)) ≡ Some id → number < n
   earlier number id live at = known_before (Log number) live.1 (something (finmap.get (names_now x) (path_in v.dir (Log number))) id at)
 
-  all_earlier : (first : ℕ) (logs : List LogPart) → AreSynced x v.dir first logs → All (IsLive v.kept) (numbers_of logs) → All (IsEarlier v.kept n) logs
+  all_earlier : (first : ℕ) (logs : List LogPart) → AreSynced x v.dir first logs → All (IsLive v.kept) (numbers_of logs)
+      → All (IsEarlier v.kept n) logs
   all_earlier first [] synced live = All-nil (IsEarlier v.kept n)
   all_earlier first (log ∷ logs) synced live =
       let here = All-head (IsLive v.kept) log.number (numbers_of logs) live in
-      All-cons (IsEarlier v.kept n) log logs (earlier log.number synced.0.id here (kept_at x (path_in v.dir (Log log.number)) synced.0.id synced.0.file synced.0.kept), here)
+      All-cons (IsEarlier v.kept n) log logs (
+        earlier log.number synced.0.id here
+            (kept_at x (path_in v.dir (Log log.number)) synced.0.id synced.0.file synced.0.kept),
+        here,
+      )
       (all_earlier (sequence_after first log.batches) logs synced.1 (All-tail (IsLive v.kept) log.number (numbers_of logs) live))
 
   abbrev logs : List LogPart
@@ -152,7 +159,8 @@ module _ (v : Shown) (s : State) (good : Good v s) (run : IsRunning (state_of go
 
   below_of : (some : List LogPart) → All (IsEarlier v.kept n) some → All (λ (k : ℕ). k < n) (numbers_of some)
   below_of [] each = All-nil (λ (k : ℕ). k < n)
-  below_of (log ∷ some) each = All-cons (λ (k : ℕ). k < n) log.number (numbers_of some) (All-head (IsEarlier v.kept n) log some each).0 (below_of some (All-tail (IsEarlier v.kept n) log some each))
+  below_of (log ∷ some) each = All-cons (λ (k : ℕ). k < n) log.number (numbers_of some)
+      (All-head (IsEarlier v.kept n) log some each).0 (below_of some (All-tail (IsEarlier v.kept n) log some each))
 
   logs_below : All (λ (k : ℕ). k < n) v.kept.logs
   logs_below = subst (All (λ (k : ℕ). k < n)) (sym is.logs.numbers) (below_of logs logs_earlier)
@@ -171,39 +179,51 @@ module _ (v : Shown) (s : State) (good : Good v s) (run : IsRunning (state_of go
       (λ same. inl (subst (λ (k : ℕ). Contains (v.kept.logs ++ n ∷ []) k) (sym same) (Contains-push v.kept.logs n)))
       (λ differs. ⊎_elim
       (λ among. inl (Contains-append_left v.kept.logs (n ∷ []) number among))
-      (λ gone. inr (file_stays new x later later_at (path_in v.dir (Log number)) (name_apart v.dir (Log n) named fits (Log number) ok (λ same. differs (log_once number n same))) ∙ gone))
+      (λ gone. inr (file_stays new x later later_at (path_in v.dir (Log number))
+      (name_apart v.dir (Log n) named fits (Log number) ok (λ same. differs (log_once number n same))) ∙ gone))
       (is.logs.only number least ok))
       (cases_eq number n)
 
-  known_there : (name : FileName) → Contains (v.kept.known ++ Log n ∷ []) name → IsFileName name × (is_some (file_at later (path_in v.dir name)) ≡ true)
+  known_there : (name : FileName) → Contains (v.kept.known ++ Log n ∷ []) name
+      → IsFileName name × (is_some (file_at later (path_in v.dir name)) ≡ true)
   known_there name among = ⊎_elim
       (λ old. let was = is.known.there name old in (was.0, still (path_in v.dir name) (path_cases (path_in v.dir name) new) was.1))
-      (λ same. subst (λ (m : FileName). IsFileName m × (is_some (file_at later (path_in v.dir m)) ≡ true)) same (fits, ap (λ (what : Option Node). is_some (id_of what)) new_there))
+      (λ same. subst (λ (m : FileName). IsFileName m × (is_some (file_at later (path_in v.dir m)) ≡ true)) same
+      (fits, ap (λ (what : Option Node). is_some (id_of what)) new_there))
       (Contains-push_cases v.kept.known (Log n) name among)
     where
       still : (other : List ℕ) → (other ≡ new) ⊎ (other ≢ new) → is_some (file_at x other) ≡ true → is_some (file_at later other) ≡ true
-      still other (inl same) there = ap (λ (p : List ℕ). is_some (file_at later p)) same ∙ ap (λ (what : Option Node). is_some (id_of what)) new_there
+      still other (inl same) there = ap (λ (p : List ℕ). is_some (file_at later p)) same ∙ ap
+          (λ (what : Option Node). is_some (id_of what)) new_there
       still other (inr differs) there = ap is_some (file_stays new x later later_at other differs) ∙ there
 
-  known_all : (name : FileName) → IsFileName name → is_some (finmap.get (names_now later) (path_in v.dir name)) ≡ true → Contains (v.kept.known ++ Log n ∷ []) name
+  known_all : (name : FileName) → IsFileName name → is_some (finmap.get (names_now later) (path_in v.dir name)) ≡ true
+      → Contains (v.kept.known ++ Log n ∷ []) name
   known_all name ok there = ⊎_elim
-      (λ same. subst (λ (m : FileName). Contains (v.kept.known ++ Log n ∷ []) m) (sym (same_name v.dir (Log n) named fits name ok same)) (Contains-push v.kept.known (Log n)))
-      (λ differs. Contains-append_left v.kept.known (Log n ∷ []) name (is.known.all name ok (ap is_some (sym (later_at.now (path_in v.dir name) differs)) ∙ there)))
+      (λ same. subst (λ (m : FileName). Contains (v.kept.known ++ Log n ∷ []) m)
+      (sym (same_name v.dir (Log n) named fits name ok same)) (Contains-push v.kept.known (Log n)))
+      (λ differs. Contains-append_left v.kept.known (Log n ∷ []) name
+      (is.known.all name ok (ap is_some (sym (later_at.now (path_in v.dir name) differs)) ∙ there)))
       (path_cases (path_in v.dir name) new)
 
   alone_later : All (IsAlone later) (appended_to v.dir (frozen_kept v.kept) n)
   alone_later =
       let manifest : List ℕ = path_in v.dir (Manifest v.kept.manifest) in
       let old : List ℕ = path_in v.dir (Log parts.last.number) in
-      let rest : List (List ℕ) = map (λ (table : Unfinished). path_in v.dir (Table table.number)) v.kept.unfinished ++ in_hand v.kept.begun v.kept.hand in
+      let rest : List (List ℕ) = map (λ (table : Unfinished). path_in v.dir (Table table.number)) v.kept.unfinished
+      ++ in_hand v.kept.begun v.kept.hand in
       All-cons (IsAlone later) manifest (new ∷ rest) (later_at.alone manifest (All-head (IsAlone x) manifest (old ∷ rest) is.alone))
       (All-cons (IsAlone later) new rest new_alone
-      (All-weaker (IsAlone x) (IsAlone later) later_at.alone rest (All-tail (IsAlone x) old rest (All-tail (IsAlone x) manifest (old ∷ rest) is.alone))))
+      (All-weaker (IsAlone x) (IsAlone later) later_at.alone rest
+      (All-tail (IsAlone x) old rest (All-tail (IsAlone x) manifest (old ∷ rest) is.alone))))
 
-  given_later : All (λ (table : Unfinished). bytes_at (tree_now later) (path_in v.dir (Table table.number)) ≡ Some table.bytes) v.kept.unfinished
+  given_later : All (λ (table : Unfinished). bytes_at (tree_now later) (path_in v.dir (Table table.number))
+      ≡ Some table.bytes) v.kept.unfinished
   given_later =
-      All-weaker (IsGiven x v.dir (Log parts.last.number)) (λ (table : Unfinished). bytes_at (tree_now later) (path_in v.dir (Table table.number)) ≡ Some table.bytes)
-      (λ table given. bytes_stay new x later later_at (path_in v.dir (Table table.number)) (table_apart v.dir table.number n) table.bytes (given (table_apart v.dir table.number parts.last.number)))
+      All-weaker (IsGiven x v.dir (Log parts.last.number)) (λ (table : Unfinished). bytes_at (tree_now later)
+      (path_in v.dir (Table table.number)) ≡ Some table.bytes)
+      (λ table given. bytes_stay new x later later_at (path_in v.dir (Table table.number))
+      (table_apart v.dir table.number n) table.bytes (given (table_apart v.dir table.number parts.last.number)))
       v.kept.unfinished is.given
 
   pub pinned_later : All (λ (pin : Pin). PinFiles later v.dir pin.files) s.pins
@@ -213,19 +233,22 @@ module _ (v : Shown) (s : State) (good : Good v s) (run : IsRunning (state_of go
       (λ file has. record {
         fits = has.fits;
         more = has.more;
-        there = bytes_stay new x later later_at (path_in v.dir file.name) (held_apart (path_in v.dir file.name) (file.bytes ++ has.more) has.there) (file.bytes ++ has.more) has.there;
+        there = bytes_stay new x later later_at (path_in v.dir file.name)
+            (held_apart (path_in v.dir file.name) (file.bytes ++ has.more) has.there) (file.bytes ++ has.more) has.there;
       }) pin.files are)
       s.pins (beside v s good run x writes).pinned
 
   pub created_inside : ChangesInside v.dir (state_of good.story) created
-  created_inside = inside_both v.dir (state_of good.story) x created writes.inside (change_inside v.dir x (Created new) (created_spares v.dir (Log n) named fits) tt)
+  created_inside = inside_both v.dir (state_of good.story) x created writes.inside
+      (change_inside v.dir x (Created new) (created_spares v.dir (Log n) named fits) tt)
 
   later_inside : ChangesInside v.dir (state_of good.story) later
   later_inside = inside_both v.dir (state_of good.story) created later created_inside
       (change_inside v.dir created Names_synced (record { names = λ folder ok other. tt; files = λ folder file ok other ok2. tt }) tt)
 
   pub folders_later : FoldersRead later s
-  folders_later = folders_stay (state_of good.story) later s (subst (λ (own : List ℕ). ChangesInside own (state_of good.story) later) good.kept.own later_inside) good.folders
+  folders_later = folders_stay (state_of good.story) later s
+      (subst (λ (own : List ℕ). ChangesInside own (state_of good.story) later) good.kept.own later_inside) good.folders
 
   -- ---- the new parts
 
@@ -242,15 +265,23 @@ module _ (v : Shown) (s : State) (good : Good v s) (run : IsRunning (state_of go
     frozen_rows : AreRowsOf (first_logged parts) (batches_in logs) v.kept.active
     frozen_rows =
         subst (λ (l : List (List Op)). AreRowsOf (first_logged parts) l v.kept.active) (sym batches_are)
-        (subst (λ (k : ℕ). AreRowsOf k parts.last.batches v.kept.active) (ap (sequence_after (first_logged parts)) none_older) run.sane.logs.active)
+        (subst (λ (k : ℕ). AreRowsOf k parts.last.batches v.kept.active)
+        (ap (sequence_after (first_logged parts)) none_older) run.sane.logs.active)
 
     older_len : v.kept.log_len ≡ older_bytes (rolled n parts)
-    older_len = omega (arith, run.works.log_len, bytes_push (first_logged parts) parts.older parts.last, no_bytes (first_logged parts) parts.older none_older)
+    older_len = omega (
+      arith,
+      run.works.log_len,
+      bytes_push (first_logged parts) parts.older parts.last,
+      no_bytes
+          (first_logged parts) parts.older none_older,
+    )
 
     frozen_sane : Sane later v.dir (frozen_kept v.kept) (rolled n parts)
     frozen_sane =
         let current = current_at v.dir (Log n) named fits x later later_at v.kept (λ same. cc) is.current in
-        let edits = edits_at v.dir (Log n) named fits x later later_at v.kept parts.edits is.current.numbered (λ same. cc) (is.edits (λ same. cc)) in
+        let edits = edits_at v.dir (Log n) named fits x later later_at v.kept parts.edits is.current.numbered (λ same. cc)
+        (is.edits (λ same. cc)) in
         let tables = tables_at v.dir (Log n) named fits x later later_at v.kept parts.rows (λ number placed found same. cc) is.tables in
         record {
           current = record { named = current.named; folder = current.folder; numbered = current.numbered; file = current.file };
@@ -278,7 +309,8 @@ module _ (v : Shown) (s : State) (good : Good v s) (run : IsRunning (state_of go
             ascend = sorted_push v.kept.logs n is.logs.ascend logs_below;
             live = All-push (IsLive v.kept) v.kept.logs n is.logs.live new_live;
             older = synced_at v.dir (Log n) named fits x later later_at (first_logged parts) logs logs_others logs_synced;
-            last = subst (λ (y : disk.State). IsWal y new [] 0) (after_names_synced created) (empty_wal (with_made new x) new (length x.files) (new_kept x new));
+            last = subst (λ (y : disk.State). IsWal y new [] 0) (after_names_synced created)
+                (empty_wal (with_made new x) new (length x.files) (new_kept x new));
             only = only_later;
             frozen = frozen_rows;
             active = record { same = IsPermutation-refl []; newest_is = λ key. refl };
@@ -300,7 +332,8 @@ module _ (v : Shown) (s : State) (good : Good v s) (run : IsRunning (state_of go
 
       pub frozen_runs : IsRunning later (frozen_shown seen v) (frozen_state seen s)
       frozen_runs =
-          let jobs = jobs_at v.dir (Log n) named fits x later later_at is.files free_alone v.kept.pins s (beside v s good run x writes).jobs in
+          let jobs = jobs_at v.dir (Log n) named fits x later later_at is.files free_alone v.kept.pins s
+          (beside v s good run x writes).jobs in
           record {
             parts = rolled n parts;
             sane = frozen_sane;
@@ -330,15 +363,24 @@ module _ (v : Shown) (s : State) (good : Good v s) (run : IsRunning (state_of go
           }
 
       -- the rows are frozen
-      pub frozen_good : (story : Story) → seen.told ≡ Some story → v.halt ≡ None → state_of story ≡ later → Good (frozen_shown seen v) (frozen_state seen s)
+      pub frozen_good : (story : Story) → seen.told ≡ Some story → v.halt ≡ None → state_of story ≡ later
+          → Good (frozen_shown seen v) (frozen_state seen s)
       frozen_good story told none at = record {
         story = story;
         told = told;
-        mode = subst (λ (y : disk.State). IsInMode v.halt y (frozen_shown seen v) t) (sym at) (subst (λ (h : Option Halt). IsInMode h later (frozen_shown seen v) t) (sym none) frozen_runs);
-        pinned = subst (λ (y : disk.State). Pinned y v.dir v.kept.pins t) (sym at) (record { pins = pins_alike s t refl refl refl v.kept.pins s.pins good.pinned.pins; files = pinned_later });
+        mode = subst (λ (y : disk.State). IsInMode v.halt y (frozen_shown seen v) t) (sym at)
+            (subst (λ (h : Option Halt). IsInMode h later (frozen_shown seen v) t) (sym none) frozen_runs);
+        pinned = subst (λ (y : disk.State). Pinned y v.dir v.kept.pins t) (sym at)
+            (record { pins = pins_alike s t refl refl refl v.kept.pins s.pins good.pinned.pins; files = pinned_later });
         folders = subst (λ (y : disk.State). FoldersRead y t) (sym at) (record { now = folders_later.now; sure = folders_later.sure });
-        clear = subst AreClearable (sym at) (clear_at v.dir (Log n) named fits x later later_at is.files (beside v s good run x writes).clear);
-        counted = record { durable = omega arith; numbers = good.counted.numbers; fronts = good.counted.fronts; begun = good.counted.begun };
+        clear = subst AreClearable (sym at) (clear_at v.dir (Log n) named fits x later later_at is.files
+            (beside v s good run x writes).clear);
+        counted = record {
+          durable = omega arith;
+          numbers = good.counted.numbers;
+          fronts = good.counted.fronts;
+          begun = good.counted.begun;
+        };
         kept = record {
           own = good.kept.own;
           sequence = good.kept.sequence;

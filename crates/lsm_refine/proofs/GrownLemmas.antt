@@ -71,8 +71,15 @@ module _ (parts : Parts) (s : State) (tied : Tied parts s) (ops : List Op) where
       ∙ sym (drop-append-le tied.flushed s.accepted (ops ∷ []) tied.within)
 
   durable_grown : (sync : Bool) → (if sync then length s.accepted + 1 else s.durable)
-      ≤ tied.flushed + (length (batches_in parts.older) + durable_after sync parts.synced (in_sequence (first_in_last parts) (parts.last.batches ++ ops ∷ [])))
-  durable_grown true = omega (arith, logged_many parts s tied, sequence_length (first_in_last parts) (parts.last.batches ++ ops ∷ []), length-append parts.last.batches (ops ∷ []))
+      ≤ tied.flushed + (length (batches_in parts.older) + durable_after sync parts.synced
+      (in_sequence (first_in_last parts) (parts.last.batches ++ ops ∷ [])))
+  durable_grown true = omega (
+    arith,
+    logged_many parts s tied,
+    sequence_length (first_in_last parts)
+        (parts.last.batches ++ ops ∷ []),
+    length-append parts.last.batches (ops ∷ []),
+  )
   durable_grown false = tied.durable
 
   front_grown : take tied.flushed (s.accepted ++ ops ∷ []) ≡ take tied.flushed s.accepted
@@ -88,8 +95,10 @@ module _ (parts : Parts) (s : State) (tied : Tied parts s) (ops : List Op) where
     durable = durable_grown sync;
   }
 
-rows_grown : (first : ℕ) (batches : List (List Op)) (ops : List Op) (next : ℕ) (old new : List Row) → next ≡ sequence_after first batches → AreRowsOf first batches old
-    → IsPermutation (old ++ batch_rows next ops) new → ((key : List ℕ) → newest key new ≡ newest key (old ++ batch_rows next ops)) → AreRowsOf first (batches ++ ops ∷ []) new
+rows_grown : (first : ℕ) (batches : List (List Op)) (ops : List Op) (next : ℕ) (old new : List Row)
+    → next ≡ sequence_after first batches → AreRowsOf first batches old
+    → IsPermutation (old ++ batch_rows next ops) new → ((key : List ℕ)
+    → newest key new ≡ newest key (old ++ batch_rows next ops)) → AreRowsOf first (batches ++ ops ∷ []) new
 rows_grown first batches ops next old new is are same newest_is =
     let rows : rows_of first (batches ++ ops ∷ []) ≡ rows_of first batches ++ batch_rows next ops =
     rows_both first batches (ops ∷ [])
@@ -98,7 +107,8 @@ rows_grown first batches ops next old new is are same newest_is =
     record {
       same = subst (λ (l : List Row). IsPermutation l new) (sym rows)
           (IsPermutation-trans (rows_of first batches ++ batch_rows next ops) (old ++ batch_rows next ops) new
-          (IsPermutation-append (rows_of first batches) old (batch_rows next ops) (batch_rows next ops) are.same (IsPermutation-refl (batch_rows next ops))) same);
+          (IsPermutation-append (rows_of first batches) old (batch_rows next ops) (batch_rows next ops) are.same
+          (IsPermutation-refl (batch_rows next ops))) same);
       newest_is = λ key.
           newest_is key
           ∙ newest-append old (batch_rows next ops) key
@@ -131,14 +141,16 @@ torn_now d path batches next durable torn =
     let held = torn_image later path batches next (length batches) whole (tree_now later) (reads_image later) in
     record {
       bytes = held.bytes;
-      is = ap (λ (bs : List (List ℕ)). bytes_at (record { names = (tree_now d).names; contents = bs }) path) (sym (sure_contents d.files torn.id)) ∙ held.is;
+      is = ap (λ (bs : List (List ℕ)). bytes_at (record { names = (tree_now d).names; contents = bs }) path)
+          (sym (sure_contents d.files torn.id)) ∙ held.is;
       batches_are = held.batches_are;
       ends = held.ends;
     }
 
 -- ---- a running store
 
-module _ (v : Shown) (s : State) (good : Good v s) (run : IsRunning (state_of good.story) v s) (ops : List Op) (logged : IsLogged (next_batch v.kept ops)) where
+module _ (v : Shown) (s : State) (good : Good v s) (run : IsRunning (state_of good.story) v s) (ops : List Op)
+    (logged : IsLogged (next_batch v.kept ops)) where
   abbrev d : disk.State
   d = state_of good.story
 
@@ -185,36 +197,46 @@ module _ (v : Shown) (s : State) (good : Good v s) (run : IsRunning (state_of go
       by (byte ∷ bytes) is = omega arith
       by [] is =
           let first : ℕ = first_in_last parts in
-          let same : wal_text (in_sequence first more) ≡ wal_text batches = ap (λ (l : List Logged). wal_text l) (sym batches_are) ∙ text_push batches next ∙ ap (λ (l : List ℕ). wal_text batches ++ l) is ∙ append-nil (wal_text batches) in
-          let both = read_once first (wal_text batches) parts.last.batches more (At_end (open_end None)) (At_end (open_end None)) (whole_reads first parts.last.batches run.sane.logs.last.each)
+          let same : wal_text (in_sequence first more) ≡ wal_text batches =
+          ap (λ (l : List Logged). wal_text l) (sym batches_are) ∙ text_push batches next ∙ ap
+          (λ (l : List ℕ). wal_text batches ++ l) is ∙ append-nil (wal_text batches) in
+          let both = read_once first (wal_text batches) parts.last.batches more (At_end (open_end None))
+          (At_end (open_end None)) (whole_reads first parts.last.batches run.sane.logs.last.each)
           (subst (λ (text : List ℕ). IsReading first text more (At_end (open_end None))) same (whole_reads first more each)) in
           absurd (omega (arith, ap (λ (l : List (List Op)). length l) both.0, more_many))
 
   -- ---- what the folder stands for, where the last log reads to a front
 
-  stands : (x : disk.State) → IsWritten x → (t : Tree) → IsImage x t → (least : ℕ) → parts.synced ≤ least → least ≤ length more → HoldsFront path (batches ++ next ∷ []) least x t
+  stands : (x : disk.State) → IsWritten x → (t : Tree) → IsImage x t → (least : ℕ) → parts.synced ≤ least → least ≤ length more
+      → HoldsFront path (batches ++ next ∷ []) least x t
       → StandsFrom (doubting ops s) (run.tied.flushed + (older + least)) t
   stands x writes t i least enough within held =
       let all = beside v s good run x writes in
-      let first = first_of x v.dir v.kept parts (readable_beside x v.dir v.kept parts (Log parts.last.number) all.sane (λ same. cc)) t i more least each within (subst (λ (l : List Logged). HoldsFront path l least x t) batches_are held) in
+      let first = first_of x v.dir v.kept parts (readable_beside x v.dir v.kept parts (Log parts.last.number) all.sane
+      (λ same. cc)) t i more least each within (subst (λ (l : List Logged). HoldsFront path l least x t) batches_are held) in
       let count : ℕ = run.tied.flushed + (older + first.0) in
       record {
         count = count;
         enough = omega (arith, first.2);
         within = omega (arith, first.3, logged_many parts s run.tied, accepted_many, more_many);
         stands = record {
-          folder = ap (λ (dir : List ℕ). finmap.get t.names dir) (sym good.kept.own) ∙ name_image x v.dir (Some Folder_node) all.sane.current.folder t i;
-          stands = subst (λ (dir : List ℕ). Stands (files_in dir t) (replayed s.opening (take count (s.accepted ++ ops ∷ []))) (sequence_after s.began (take count (s.accepted ++ ops ∷ [])))) good.kept.own
-              (front_stands (grown ops false parts) (with_batch ops false s) run.sane.lawful (tied_grown parts s run.tied ops false) (files_in v.dir t) first.0 first.1 first.4 (omega (arith, enough, first.2)));
+          folder = ap (λ (dir : List ℕ). finmap.get t.names dir) (sym good.kept.own) ∙ name_image x v.dir
+              (Some Folder_node) all.sane.current.folder t i;
+          stands = subst (λ (dir : List ℕ). Stands (files_in dir t) (replayed s.opening (take count (s.accepted ++ ops ∷ [])))
+              (sequence_after s.began (take count (s.accepted ++ ops ∷ [])))) good.kept.own
+              (front_stands (grown ops false parts) (with_batch ops false s) run.sane.lawful
+              (tied_grown parts s run.tied ops false) (files_in v.dir t) first.0 first.1 first.4 (omega (arith, enough, first.2)));
         };
       }
 
-  shows_front : (x : disk.State) → IsWritten x → (t : Tree) → IsImage x t → HoldsFront path (batches ++ next ∷ []) parts.synced x t → StandsFrom (doubting ops s) s.durable t
+  shows_front : (x : disk.State) → IsWritten x → (t : Tree) → IsImage x t
+      → HoldsFront path (batches ++ next ∷ []) parts.synced x t → StandsFrom (doubting ops s) s.durable t
   shows_front x writes t i held =
       stands_less (doubting ops s) (run.tied.flushed + (older + parts.synced)) s.durable t run.tied.durable
       (stands x writes t i parts.synced (omega arith) (omega (arith, synced_few v s good run, more_many)) held)
 
-  shows_write : (x : disk.State) (t : Tree) → IsWritten x → IsImage x t → HoldsFront path (batches ++ next ∷ []) parts.synced x t → ReadsAsCrashed (doubting ops s) t
+  shows_write : (x : disk.State) (t : Tree) → IsWritten x → IsImage x t
+      → HoldsFront path (batches ++ next ∷ []) parts.synced x t → ReadsAsCrashed (doubting ops s) t
   shows_write x t writes i held =
       let read = folders_beside v s good run x writes in
       crash_reads x (doubting ops s) t i (record { now = read.now; sure = read.sure }) (shows_front x writes t i held)
@@ -222,35 +244,46 @@ module _ (v : Shown) (s : State) (good : Good v s) (run : IsRunning (state_of go
   -- ---- the append
 
   module _ {T : Type 0} (sync : Bool) (result : Result T DiskRefusal) (told : Option Story)
-      (went : Went good.story told (InFile run.sane.logs.last.id) (HoldsFront (last_path v.dir run.parts) (last_batches run.parts ++ next_batch v.kept ops ∷ []) run.parts.synced)
+      (went : Went good.story told (InFile run.sane.logs.last.id)
+      (HoldsFront (last_path v.dir run.parts) (last_batches run.parts ++ next_batch v.kept ops ∷ []) run.parts.synced)
       (IsLeft (last_path v.dir run.parts) (last_batches run.parts) (next_batch v.kept ops) run.parts.synced sync result)) where
     -- what an append leaves is beside what stays, and each image on the way reads as a crash leaves the state, perhaps with
     -- the new batch
     pub append_went : Went good.story told (InFile run.sane.logs.last.id) (λ x t. ReadsAsCrashed (doubting ops s) t)
         (λ x. IsLeft (last_path v.dir run.parts) (last_batches run.parts) (next_batch v.kept ops) run.parts.synced sync result x
-        × (WritesAt v.dir (Log run.parts.last.number) (state_of good.story) x × IsLone x v.dir (Log run.parts.last.number) run.sane.logs.last.id))
+        × (WritesAt v.dir (Log run.parts.last.number) (state_of good.story) x
+        × IsLone x v.dir (Log run.parts.last.number) run.sane.logs.last.id))
     append_went =
-        went_beside v.dir (Log run.parts.last.number) good.story told run.sane.logs.last.id (HoldsFront path (batches ++ next ∷ []) parts.synced) (λ x t. ReadsAsCrashed (doubting ops s) t)
-        (IsLeft path batches next parts.synced sync result) (last_lone v s good run) (λ x t writes i held. shows_write x t writes i held) went
+        went_beside v.dir (Log run.parts.last.number) good.story told run.sane.logs.last.id
+        (HoldsFront path (batches ++ next ∷ []) parts.synced) (λ x t. ReadsAsCrashed (doubting ops s) t)
+        (IsLeft path batches next parts.synced sync result) (last_lone v s good run)
+        (λ x t writes i held. shows_write x t writes i held) went
 
     pub append_shows : ImagesShowWrite good.story told ops s
     append_shows =
-        went_wider (InFile run.sane.logs.last.id) (λ c. Unit {0}) (λ x t. ReadsAsCrashed (doubting ops s) t) (λ x t. ReadsAsCrashed (doubting ops s) t) (λ c is. tt) (λ x t is. is)
-        (went_weaker (λ x. IsLeft path batches next parts.synced sync result x × (IsWritten x × IsLone x v.dir (Log run.parts.last.number) run.sane.logs.last.id)) (λ x. Unit {0}) (λ x is. tt) append_went)
+        went_wider (InFile run.sane.logs.last.id) (λ c. Unit {0}) (λ x t. ReadsAsCrashed (doubting ops s) t)
+        (λ x t. ReadsAsCrashed (doubting ops s) t) (λ c is. tt) (λ x t is. is)
+        (went_weaker (λ x. IsLeft path batches next parts.synced sync result x
+        × (IsWritten x × IsLone x v.dir (Log run.parts.last.number) run.sane.logs.last.id)) (λ x. Unit {0}) (λ x is. tt) append_went)
 
   -- ---- halted
 
   -- a fault of the disk halts the store, and the batch is doubtful
-  pub torn_good : (seen : Seen) (at : Halt) (story : Story) → seen.told ≡ Some story → WritesAt v.dir (Log run.parts.last.number) (state_of good.story) (state_of story)
-      → IsTornWal (state_of story) (last_path v.dir run.parts) (last_batches run.parts) (next_batch v.kept ops) run.parts.synced → Good (halted_shown seen at v) (halted_state seen at (Some ops) s)
+  pub torn_good : (seen : Seen) (at : Halt) (story : Story) → seen.told ≡ Some story
+      → WritesAt v.dir (Log run.parts.last.number) (state_of good.story) (state_of story)
+      → IsTornWal (state_of story) (last_path v.dir run.parts) (last_batches run.parts)
+      (next_batch v.kept ops) run.parts.synced → Good (halted_shown seen at v) (halted_state seen at (Some ops) s)
   torn_good seen at story told writes torn =
       let x : disk.State = state_of story in
       let all = beside v s good run x writes in
-      let held = subst (λ (n : ℕ). HoldsFront path (batches ++ next ∷ []) n x (tree_now x)) (sequence_length (first_in_last parts) parts.last.batches) (torn_now x path batches next parts.synced torn) in
+      let held = subst (λ (n : ℕ). HoldsFront path (batches ++ next ∷ []) n x (tree_now x))
+      (sequence_length (first_in_last parts) parts.last.batches) (torn_now x path batches next parts.synced torn) in
       halts_good v s good run seen at (Some ops) story told (record {
         tables = all.sane.tables;
-        now = stands_less (doubting ops s) (run.tied.flushed + (older + length parts.last.batches)) (length s.accepted) (tree_now x) (omega (arith, logged_many parts s run.tied))
-            (stands x writes (tree_now x) (reads_image x) (length parts.last.batches) (synced_few v s good run) (omega (arith, more_many)) held);
+        now = stands_less (doubting ops s) (run.tied.flushed + (older + length parts.last.batches)) (length s.accepted)
+            (tree_now x) (omega (arith, logged_many parts s run.tied))
+            (stands x writes (tree_now x) (reads_image x) (length parts.last.batches) (synced_few v s good run)
+            (omega (arith, more_many)) held);
         images = λ t i. shows_front x writes t i (torn_image x path batches next parts.synced torn t i);
         pinned = all.pinned;
         folders = folders_beside v s good run x writes;
@@ -259,7 +292,8 @@ module _ (v : Shown) (s : State) (good : Good v s) (run : IsRunning (state_of go
 
   -- ---- accepted
 
-  module _ (seen : Seen) (sync : Bool) (rows : List Row) (len : ℕ) (same : IsPermutation (v.kept.active ++ batch_rows (v.kept.sequence + 1) ops) rows)
+  module _ (seen : Seen) (sync : Bool) (rows : List Row) (len : ℕ)
+      (same : IsPermutation (v.kept.active ++ batch_rows (v.kept.sequence + 1) ops) rows)
       (newest_is : (key : List ℕ) → newest key rows ≡ newest key (v.kept.active ++ batch_rows (v.kept.sequence + 1) ops))
       (long : len ≡ v.kept.log_len + length (record_behind (last_batches run.parts) (next_batch v.kept ops))) where
     abbrev t : State
@@ -279,7 +313,8 @@ module _ (v : Shown) (s : State) (good : Good v s) (run : IsRunning (state_of go
         ∙ ap (λ (l : List ℕ). length l) (sym (text_push batches next))
         ∙ ap (λ (l : List Logged). length (wal_text l)) batches_are
 
-    grown_sane : (x : disk.State) → IsWritten x → IsWal x path (batches ++ next ∷ []) (durable_after sync parts.synced (batches ++ next ∷ [])) → Sane x v.dir (grown_kept ops rows len v.kept) new_parts
+    grown_sane : (x : disk.State) → IsWritten x → IsWal x path (batches ++ next ∷ [])
+        (durable_after sync parts.synced (batches ++ next ∷ [])) → Sane x v.dir (grown_kept ops rows len v.kept) new_parts
     grown_sane x writes wal =
         let is = (beside v s good run x writes).sane in
         let edits = is.edits (λ same. cc) in
@@ -312,14 +347,19 @@ module _ (v : Shown) (s : State) (good : Good v s) (run : IsRunning (state_of go
             last = subst (λ (l : List Logged). IsWal x path l (durable_after sync parts.synced l)) batches_are wal;
             only = is.logs.only;
             frozen = is.logs.frozen;
-            active = rows_grown (first_in_last parts) parts.last.batches ops (v.kept.sequence + 1) v.kept.active rows (next_is v s good run) run.sane.logs.active same newest_is;
+            active = rows_grown (first_in_last parts) parts.last.batches ops (v.kept.sequence + 1) v.kept.active rows
+                (next_is v s good run) run.sane.logs.active same newest_is;
           };
-          quiet = record { spares = λ other fits held. is.quiet.spares other fits (held_same v.kept (v.kept.sequence + length ops) rows len other held) };
+          quiet = record {
+            spares = λ other fits held. is.quiet.spares other fits
+                (held_same v.kept (v.kept.sequence + length ops) rows len other held);
+          };
           known = record { there = is.known.there; all = is.known.all };
           files = is.files;
           lawful = is.lawful;
           written = record {
-            tables = All-weaker (IsGiven x v.dir (Log parts.last.number)) (λ (table : Unfinished). bytes_at (tree_now x) (path_in v.dir (Table table.number)) ≡ Some table.bytes)
+            tables = All-weaker (IsGiven x v.dir (Log parts.last.number))
+                (λ (table : Unfinished). bytes_at (tree_now x) (path_in v.dir (Table table.number)) ≡ Some table.bytes)
                 (λ table given. given (table_apart v.dir table.number parts.last.number)) v.kept.unfinished is.given;
             alone = is.alone;
           };
@@ -328,7 +368,8 @@ module _ (v : Shown) (s : State) (good : Good v s) (run : IsRunning (state_of go
 
     pin_grown : (kept : KeptPin) (pin : Pin) → IsKeptPin s kept pin → IsKeptPin t kept pin
     pin_grown kept pin is =
-        let front : take pin.batches s.accepted ≡ take pin.batches (s.accepted ++ ops ∷ []) = sym (take-append-le pin.batches s.accepted (ops ∷ []) is.within) in
+        let front : take pin.batches s.accepted ≡ take pin.batches (s.accepted ++ ops ∷ []) =
+        sym (take-append-le pin.batches s.accepted (ops ∷ []) is.within) in
         record {
           number = is.number;
           sequence = is.sequence ∙ ap (sequence_after s.began) front;
@@ -336,10 +377,12 @@ module _ (v : Shown) (s : State) (good : Good v s) (run : IsRunning (state_of go
           manifest = is.manifest;
           holder = is.holder;
           within = omega (arith, is.within, accepted_many);
-          stands = subst (λ (l : List (List Op)). Stands (folder_of_pin kept.manifest pin.files) (replayed s.opening l) (sequence_after s.began l)) front is.stands;
+          stands = subst (λ (l : List (List Op)). Stands (folder_of_pin kept.manifest pin.files) (replayed s.opening l)
+              (sequence_after s.began l)) front is.stands;
         }
 
-    grown_runs : (x : disk.State) → IsWritten x → IsWal x path (batches ++ next ∷ []) (durable_after sync parts.synced (batches ++ next ∷ [])) → IsRunning x w t
+    grown_runs : (x : disk.State) → IsWritten x → IsWal x path (batches ++ next ∷ [])
+        (durable_after sync parts.synced (batches ++ next ∷ [])) → IsRunning x w t
     grown_runs x writes wal =
         let tied = tied_grown parts s run.tied ops sync in
         let jobs = (beside v s good run x writes).jobs in
@@ -376,8 +419,10 @@ module _ (v : Shown) (s : State) (good : Good v s) (run : IsRunning (state_of go
     durable_counted false = omega (arith, accepted_many, good.counted.durable)
 
     -- an appended batch is accepted
-    pub grown_good : (story : Story) → seen.told ≡ Some story → v.halt ≡ None → WritesAt v.dir (Log run.parts.last.number) (state_of good.story) (state_of story)
-        → IsWal (state_of story) (last_path v.dir run.parts) (last_batches run.parts ++ next_batch v.kept ops ∷ []) (durable_after sync run.parts.synced (last_batches run.parts ++ next_batch v.kept ops ∷ []))
+    pub grown_good : (story : Story) → seen.told ≡ Some story → v.halt ≡ None
+        → WritesAt v.dir (Log run.parts.last.number) (state_of good.story) (state_of story)
+        → IsWal (state_of story) (last_path v.dir run.parts) (last_batches run.parts ++ next_batch v.kept ops ∷ [])
+        (durable_after sync run.parts.synced (last_batches run.parts ++ next_batch v.kept ops ∷ []))
         → Good (grown_shown seen ops rows len v) (grown_state seen ops sync len s)
     grown_good story told none writes wal =
         let x : disk.State = state_of story in
@@ -393,7 +438,9 @@ module _ (v : Shown) (s : State) (good : Good v s) (run : IsRunning (state_of go
           counted = record {
             durable = durable_counted sync;
             numbers = good.counted.numbers;
-            fronts = All-weaker (λ (pin : Pin). pin.batches ≤ length s.accepted) (λ (pin : Pin). pin.batches ≤ length (s.accepted ++ ops ∷ [])) (λ pin few. omega (arith, few, accepted_many)) s.pins good.counted.fronts;
+            fronts = All-weaker (λ (pin : Pin). pin.batches ≤ length s.accepted)
+                (λ (pin : Pin). pin.batches ≤ length (s.accepted ++ ops ∷ []))
+                (λ pin few. omega (arith, few, accepted_many)) s.pins good.counted.fronts;
             begun = good.counted.begun;
           };
           kept = record {

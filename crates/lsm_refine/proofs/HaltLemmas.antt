@@ -20,11 +20,18 @@ use Rattle.lsm_refine.proofs.ShownLemmas.{running_shown, running_active, running
 
 -- so many batches more are no fewer
 pub stands_less : (s : State) (least fewer : ℕ) (t : Tree) → fewer ≤ least → StandsFrom s least t → StandsFrom s fewer t
-stands_less s least fewer t less is = record { count = is.count; enough = omega (arith, is.enough, less); within = is.within; stands = is.stands }
+stands_less s least fewer t less is = record {
+  count = is.count;
+  enough = omega (arith, is.enough, less);
+  within = is.within;
+  stands = is.stands;
+}
 
 -- a state with its own doubtful batch is itself
-pub left_same : (x : disk.State) (v : Shown) (rows : ℕ → List Row) (s : State) → HasTables x v.dir v.kept rows → StandsFrom s (length s.accepted) (tree_now x)
-    → ((t : Tree) → IsImage x t → StandsFrom s s.durable t) → All (λ (pin : Pin). PinFiles x v.dir pin.files) s.pins → FoldersRead x s → AreClearable x → IsLeftHalted x v rows s s.doubtful
+pub left_same : (x : disk.State) (v : Shown) (rows : ℕ → List Row) (s : State) → HasTables x v.dir v.kept rows
+    → StandsFrom s (length s.accepted) (tree_now x)
+    → ((t : Tree) → IsImage x t → StandsFrom s s.durable t) → All (λ (pin : Pin). PinFiles x v.dir pin.files) s.pins
+    → FoldersRead x s → AreClearable x → IsLeftHalted x v rows s s.doubtful
 left_same x v rows s tables now images pinned folders clear = record {
   tables = tables;
   now = same (length s.accepted) (tree_now x) now;
@@ -35,9 +42,15 @@ left_same x v rows s tables now images pinned folders clear = record {
 }
   where
     same : (least : ℕ) (t : Tree) → StandsFrom s least t → StandsFrom (record s { doubtful = s.doubtful }) least t
-    same least t is = record { count = is.count; enough = is.enough; within = is.within; stands = record { folder = is.stands.folder; stands = is.stands.stands } }
+    same least t is = record {
+      count = is.count;
+      enough = is.enough;
+      within = is.within;
+      stands = record { folder = is.stands.folder; stands = is.stands.stands };
+    }
 
-module _ (v : Shown) (s : State) (good : Good v s) (run : IsRunning (state_of good.story) v s) (seen : Seen) (at : Halt) (doubtful : Option (List Op)) where
+module _ (v : Shown) (s : State) (good : Good v s) (run : IsRunning (state_of good.story) v s) (seen : Seen) (at : Halt)
+    (doubtful : Option (List Op)) where
   abbrev t : State
   t = halted_state seen at doubtful s
 
@@ -45,7 +58,12 @@ module _ (v : Shown) (s : State) (good : Good v s) (run : IsRunning (state_of go
   w = halted_shown seen at v
 
   as_halted : (least : ℕ) (tree : Tree) → StandsFrom (record s { doubtful = doubtful }) least tree → StandsFrom t least tree
-  as_halted least tree is = record { count = is.count; enough = is.enough; within = is.within; stands = record { folder = is.stands.folder; stands = is.stands.stands } }
+  as_halted least tree is = record {
+    count = is.count;
+    enough = is.enough;
+    within = is.within;
+    stands = record { folder = is.stands.folder; stands = is.stands.stands };
+  }
 
   is_halted : (x : disk.State) → IsLeftHalted x v run.parts.rows s doubtful → IsHalted x w t
   is_halted x left =
@@ -64,7 +82,8 @@ module _ (v : Shown) (s : State) (good : Good v s) (run : IsRunning (state_of go
       }
 
   -- it is good for the state that the call halted
-  pub halts_good : (story : Story) → seen.told ≡ Some story → IsLeftHalted (state_of story) v run.parts.rows s doubtful → Good (halted_shown seen at v) (halted_state seen at doubtful s)
+  pub halts_good : (story : Story) → seen.told ≡ Some story → IsLeftHalted (state_of story) v run.parts.rows s doubtful
+      → Good (halted_shown seen at v) (halted_state seen at doubtful s)
   halts_good story told left = record {
     story = story;
     told = told;
@@ -72,7 +91,12 @@ module _ (v : Shown) (s : State) (good : Good v s) (run : IsRunning (state_of go
     pinned = record { pins = pins_alike s t refl refl refl v.kept.pins s.pins good.pinned.pins; files = left.pinned };
     folders = record { now = left.folders.now; sure = left.folders.sure };
     clear = left.clear;
-    counted = record { durable = good.counted.durable; numbers = good.counted.numbers; fronts = good.counted.fronts; begun = good.counted.begun };
+    counted = record {
+      durable = good.counted.durable;
+      numbers = good.counted.numbers;
+      fronts = good.counted.fronts;
+      begun = good.counted.begun;
+    };
     kept = record {
       own = good.kept.own;
       sequence = good.kept.sequence;

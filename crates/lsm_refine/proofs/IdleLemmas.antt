@@ -48,15 +48,18 @@ read_once read one two first second = let same : Ok one ≡ Ok two = sym first �
 
 pub stands_once : (files : Files) (one two : Contents) (m n : ℕ) → Stands files one m → Stands files two n → (one ≡ two) × (m ≡ n)
 stands_once files one two m n first second =
-    let same = read_once (reading (Stands_with files)) (record { sequence = m; contents = one }) (record { sequence = n; contents = two }) first.read second.read in
+    let same = read_once (reading (Stands_with files)) (record { sequence = m; contents = one })
+    (record { sequence = n; contents = two }) first.read second.read in
     (ap (λ (shown : plain.Shown). shown.contents) same, ap (λ (shown : plain.Shown). shown.sequence) same)
 
 -- and what stands isn't fresh
-pub not_fresh : {A : Type 0} (dir : List ℕ) (t : Tree) (contents : Contents) (sequence : ℕ) → 1 ≤ length dir → finmap.get t.names dir ≡ Some Folder_node → Stands (files_in dir t) contents sequence
+pub not_fresh : {A : Type 0} (dir : List ℕ) (t : Tree) (contents : Contents) (sequence : ℕ) → 1 ≤ length dir
+    → finmap.get t.names dir ≡ Some Folder_node → Stands (files_in dir t) contents sequence
     → IsFresh (place_of dir t) → A
 unfolding place_of
 not_fresh dir t contents sequence some folder is fresh =
-    let node : stands t.names dir ≡ Some Folder_node = sym (get_named t.names dir (λ empty. omega (arith, some, ap (λ (p : List ℕ). length p) empty))) ∙ folder in
+    let node : stands t.names dir ≡ Some Folder_node = sym (get_named t.names dir
+    (λ empty. omega (arith, some, ap (λ (p : List ℕ). length p) empty))) ∙ folder in
     let read : reading (place_by (stands t.names dir) (files_in dir t)) ≡ Ok (record { sequence = sequence; contents = contents }) =
     ap (λ (n : Option Node). reading (place_by n (files_in dir t))) node ∙ is.read in
     ⊎_elim (λ none. absurd (cc)) (λ none. absurd (cc)) (fresh_is_none (place_by (stands t.names dir) (files_in dir t)) fresh)
@@ -116,7 +119,10 @@ module _ (s : State) (folders : List FolderRead) where
     story = good.story;
     told = good.told;
     mode = by_halt v.halt (state_of good.story) v runs good.mode;
-    pinned = record { pins = pins_fit (IsKeptPin s) (IsKeptPin listing) kept_pin v.kept.pins s.pins good.pinned.pins; files = good.pinned.files };
+    pinned = record {
+      pins = pins_fit (IsKeptPin s) (IsKeptPin listing) kept_pin v.kept.pins s.pins good.pinned.pins;
+      files = good.pinned.files;
+    };
     folders = read;
     clear = good.clear;
     counted = record {
@@ -138,7 +144,8 @@ module _ (s : State) (folders : List FolderRead) where
 
 -- ---- an opening that leaves the disk as it is
 
-module _ (v : Shown) (s was : State) (good : Good v s) (opened : Opened was s) (settled : IsSettled (state_of good.story)) (runs : v.halt ≡ None) where
+module _ (v : Shown) (s was : State) (good : Good v s) (opened : Opened was s) (settled : IsSettled (state_of good.story))
+    (runs : v.halt ≡ None) where
   abbrev d : disk.State
   d = state_of good.story
 
@@ -156,7 +163,8 @@ module _ (v : Shown) (s was : State) (good : Good v s) (opened : Opened was s) (
       let nothing : take 0 (written s) ≡ [] = refl in
       record {
         folder = front.stands.folder;
-        stands = subst (λ (l : List (List Op)). Stands (files_in s.own (tree_now d)) (shown_after s l).contents (shown_after s l).sequence) (none ∙ sym nothing) front.stands.stands;
+        stands = subst (λ (l : List (List Op)). Stands (files_in s.own (tree_now d)) (shown_after s l).contents
+            (shown_after s l).sequence) (none ∙ sym nothing) front.stands.stands;
       }
 
   named : 1 ≤ length s.own
@@ -172,12 +180,15 @@ module _ (v : Shown) (s was : State) (good : Good v s) (opened : Opened was s) (
 
     shown_by : (count : ℕ) → Holds found (tree_now d) count → shown_after s [] ≡ shown_after found (take count (written found))
     shown_by count (As_store stands) =
-        let same = stands_once (files_in s.own (tree_now d)) s.opening (shown_after found (take count (written found))).contents s.began (shown_after found (take count (written found))).sequence
+        let same = stands_once (files_in s.own (tree_now d)) s.opening
+        (shown_after found (take count (written found))).contents s.began (shown_after found (take count (written found))).sequence
         stands_so.stands
-        (subst (λ (dir : List ℕ). Stands (files_in dir (tree_now d)) (shown_after found (take count (written found))).contents (shown_after found (take count (written found))).sequence) own stands.stands) in
+        (subst (λ (dir : List ℕ). Stands (files_in dir (tree_now d)) (shown_after found (take count (written found))).contents
+        (shown_after found (take count (written found))).sequence) own stands.stands) in
         λ i. record { sequence = same.1 i; contents = same.0 i }
     shown_by count (As_fresh fresh none) =
-        not_fresh s.own (tree_now d) s.opening s.began named stands_so.folder stands_so.stands (subst (λ (dir : List ℕ). IsFresh (place_of dir (tree_now d))) own fresh)
+        not_fresh s.own (tree_now d) s.opening s.began named stands_so.folder stands_so.stands
+        (subst (λ (dir : List ℕ). IsFresh (place_of dir (tree_now d))) own fresh)
 
     own_was : was.own ≡ found.own
     own_was = sym (ap (λ (q : State). q.own) opened.rest) ∙ sym own
@@ -189,24 +200,26 @@ module _ (v : Shown) (s was : State) (good : Good v s) (opened : Opened was s) (
       shown = shown_by is.now.count is.now.holds;
       folders = λ name. refl;
       sure = λ name folder listed sure. listed;
-      rest = ap (λ (q : State). record q { folders = found.folders }) opened.rest ∙ (λ i. record (closed (record found { own = own_was i })) {
-        opening = s.opening;
-        began = s.began;
-        accepted = [];
-        durable = 0;
-        folders = found.folders;
-        tables = s.tables;
-        next = s.next;
-        manifest_len = s.manifest_len;
-        faults = s.faults;
-        refusals = s.refusals;
-      });
+      rest = ap (λ (q : State). record q { folders = found.folders }) opened.rest ∙
+          (λ i. record (closed (record found { own = own_was i })) {
+            opening = s.opening;
+            began = s.began;
+            accepted = [];
+            durable = 0;
+            folders = found.folders;
+            tables = s.tables;
+            next = s.next;
+            manifest_len = s.manifest_len;
+            faults = s.faults;
+            refusals = s.refusals;
+          });
     }
 
     reads_so : FoldersRead d left
     reads_so =
         let all : FoldersRead d (record found { own = s.own }) =
-        subst (λ (dir : List ℕ). FoldersRead d (record found { own = dir })) own (record { now = is.folders.now; sure = is.folders.sure }) in
+        subst (λ (dir : List ℕ). FoldersRead d (record found { own = dir })) own
+        (record { now = is.folders.now; sure = is.folders.sure }) in
         record { now = all.now; sure = all.sure }
 
     idle_opens : OpensTo found v
@@ -221,7 +234,8 @@ module _ (v : Shown) (s was : State) (good : Good v s) (opened : Opened was s) (
   idle_opened = record {
     leads = λ found own is. idle_opens found (own ∙ good.kept.own) is;
     fresh = λ fresh clear.
-        not_fresh s.own (tree_now d) s.opening s.began named stands_so.folder stands_so.stands (subst (λ (dir : List ℕ). IsFresh (place_of dir (tree_now d))) good.kept.own fresh);
+        not_fresh s.own (tree_now d) s.opening s.began named stands_so.folder stands_so.stands
+        (subst (λ (dir : List ℕ). IsFresh (place_of dir (tree_now d))) good.kept.own fresh);
     moments = λ found own is. record {
       story = good.story;
       tells = good.told;
@@ -232,7 +246,8 @@ module _ (v : Shown) (s was : State) (good : Good v s) (opened : Opened was s) (
 
 -- ---- a new store
 
-new_was_opened : (seen : Seen) (dir : List ℕ) (folders : List FolderRead) → Opened (found_state dir finmap.empty 0 folders) (new_state seen dir 1 folders)
+new_was_opened : (seen : Seen) (dir : List ℕ) (folders : List FolderRead)
+    → Opened (found_state dir finmap.empty 0 folders) (new_state seen dir 1 folders)
 new_was_opened seen dir folders = record {
   kept = 0;
   accepted = omega arith;
@@ -257,4 +272,5 @@ module _ (dir : List ℕ) (fits : is_folder_name dir ≡ true) where
       let made = new_listed fresh_seen dir 1 [] (untouched (new_disk dir)) refl (new_there dir fits) in
       let same : untouched (new_disk dir) ≡ made.1.story = same_story (untouched (new_disk dir)) made.1.story made.1.told in
       subst (λ (q : Story). HasOpened q dir (new_store fresh_seen dir 1 [])) (sym same)
-      (idle_opened (new_store fresh_seen dir 1 []) (new_state fresh_seen dir 1 made.0) (found_state dir finmap.empty 0 made.0) made.1 (new_was_opened fresh_seen dir made.0) (at_story made.1.story same) refl)
+      (idle_opened (new_store fresh_seen dir 1 []) (new_state fresh_seen dir 1 made.0)
+      (found_state dir finmap.empty 0 made.0) made.1 (new_was_opened fresh_seen dir made.0) (at_story made.1.story same) refl)

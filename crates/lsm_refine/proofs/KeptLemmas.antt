@@ -31,10 +31,12 @@ module _ (s : State) (one t : Tree) (count : ℕ) (some : 1 ≤ length s.own) wh
   abbrev ShowsFront : Contents → ℕ → Type 0
   ShowsFront contents sequence = Stands (files_in s.own t) contents sequence
 
-  stands_on : (contents : Contents) (sequence : ℕ) → contents ≡ replayed s.opening front → sequence ≡ sequence_after s.began front → StandsAs s.own contents sequence t → StandsFor s t count
+  stands_on : (contents : Contents) (sequence : ℕ) → contents ≡ replayed s.opening front
+      → sequence ≡ sequence_after s.began front → StandsAs s.own contents sequence t → StandsFor s t count
   stands_on contents sequence as_contents as_sequence is = record {
     folder = is.folder;
-    stands = subst (λ (m : Contents). ShowsFront m (sequence_after s.began front)) as_contents (subst (ShowsFront contents) as_sequence is.stands);
+    stands = subst (λ (m : Contents). ShowsFront m (sequence_after s.began front)) as_contents
+        (subst (ShowsFront contents) as_sequence is.stands);
   }
 
   nothing_more : IsUnwritten s → (finmap.empty ≡ replayed s.opening front) × (0 ≡ sequence_after s.began front)
@@ -44,11 +46,15 @@ module _ (s : State) (one t : Tree) (count : ℕ) (some : 1 ≤ length s.own) wh
 
   still_holds : Holds s one count → IsAsBefore s.own one t → Holds s t count
   still_holds (As_store stands) (Same contents sequence before after) =
-      let same = stands_once (files_in s.own one) contents (replayed s.opening front) sequence (sequence_after s.began front) before.stands stands.stands in
+      let same = stands_once (files_in s.own one) contents (replayed s.opening front) sequence
+      (sequence_after s.began front) before.stands stands.stands in
       As_store (stands_on contents sequence same.0 same.1 after)
-  still_holds (As_store stands) (Still_fresh before after) = not_fresh s.own one (replayed s.opening front) (sequence_after s.began front) some stands.folder stands.stands before
-  still_holds (As_store stands) (Made before after) = not_fresh s.own one (replayed s.opening front) (sequence_after s.began front) some stands.folder stands.stands before
-  still_holds (As_fresh fresh none) (Same contents sequence before after) = not_fresh s.own one contents sequence some before.folder before.stands fresh
+  still_holds (As_store stands) (Still_fresh before after) =
+      not_fresh s.own one (replayed s.opening front) (sequence_after s.began front) some stands.folder stands.stands before
+  still_holds (As_store stands) (Made before after) = not_fresh s.own one (replayed s.opening front)
+      (sequence_after s.began front) some stands.folder stands.stands before
+  still_holds (As_fresh fresh none) (Same contents sequence before after) =
+      not_fresh s.own one contents sequence some before.folder before.stands fresh
   still_holds (As_fresh fresh none) (Still_fresh before after) = As_fresh after none
   still_holds (As_fresh fresh none) (Made before after) =
       let nothing = nothing_more none in
@@ -82,7 +88,8 @@ module _ (s : State) (one other t : Tree) (own : IsLeftOf s one) (others : IsLef
       rest = ap (λ (q : State). record q { folders = others.left.folders }) own.crashed.rest;
     };
     holds = record {
-      own = same_holds (still_holds own.left one t (length own.left.accepted) (subst (λ (dir : List ℕ). 1 ≤ length dir) own_is some) own.holds.own
+      own = same_holds (still_holds own.left one t (length own.left.accepted)
+          (subst (λ (dir : List ℕ). 1 ≤ length dir) own_is some) own.holds.own
           (subst (λ (dir : List ℕ). IsAsBefore dir one t) own_is as_before));
       others = folders_alike own.left.own others.left.folders other t (subst (λ (dir : List ℕ). AreAlikeOutside dir other t) own_is alike)
           (subst (λ (dir : List ℕ). FoldersAre dir others.left.folders other) others_own others.holds.others);
@@ -90,10 +97,13 @@ module _ (s : State) (one other t : Tree) (own : IsLeftOf s one) (others : IsLef
     };
   }
 
-pub kept_left : (d : disk.State) (s : State) (dir : List ℕ) (t : Tree) → is_folder_name dir ≡ true → s.own ≡ dir → IsFound d s → IsKeptImage dir d t → IsLeftOf s t
+pub kept_left : (d : disk.State) (s : State) (dir : List ℕ) (t : Tree) → is_folder_name dir ≡ true → s.own ≡ dir → IsFound d s
+    → IsKeptImage dir d t → IsLeftOf s t
 kept_left d s dir t named own found kept =
-    left_so s kept.one kept.other t (found_leaves d s found kept.one kept.of) (found_leaves d s found kept.other kept.also) (subst (λ (q : List ℕ). 1 ≤ length q) (sym own) (folder_has_bytes dir named))
-    (subst (λ (q : List ℕ). IsAsBefore q kept.one t) (sym own) kept.own) (subst (λ (q : List ℕ). AreAlikeOutside q kept.other t) (sym own) kept.outside) kept.clear
+    left_so s kept.one kept.other t (found_leaves d s found kept.one kept.of) (found_leaves d s found kept.other kept.also)
+    (subst (λ (q : List ℕ). 1 ≤ length q) (sym own) (folder_has_bytes dir named))
+    (subst (λ (q : List ℕ). IsAsBefore q kept.one t) (sym own) kept.own)
+    (subst (λ (q : List ℕ). AreAlikeOutside q kept.other t) (sym own) kept.outside) kept.clear
 
 pub kept_loses_nothing : (before : Story) (dir : List ℕ) (told : Option Story) → is_folder_name dir ≡ true
     → Went before told (λ c. Unit {0}) (λ d t. IsKeptImage dir (state_of before) t) (λ d. Unit {0}) → LosesNothing before dir told

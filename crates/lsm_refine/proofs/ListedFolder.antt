@@ -24,25 +24,31 @@ Entries = List (FileName × Item)
 abbrev pub LacksName : FileName → Entries → Type 0
 LacksName name es = All (λ (e : FileName × Item). eq_by_cmp name_cmp name e.0 ≡ false) es
 
-pub passed : (name : FileName) (es more : Entries) → LacksName name es → finmap.find name_cmp name (es ++ more) ≡ finmap.find name_cmp name more
+pub passed : (name : FileName) (es more : Entries) → LacksName name es
+    → finmap.find name_cmp name (es ++ more) ≡ finmap.find name_cmp name more
 passed name [] more lacks = refl
 passed name (e ∷ es) more lacks =
-    ap (λ (b : Bool). cond b (Some e.1) (finmap.find name_cmp name (es ++ more))) (All-head (λ (x : FileName × Item). eq_by_cmp name_cmp name x.0 ≡ false) e es lacks)
+    ap (λ (b : Bool). cond b (Some e.1) (finmap.find name_cmp name (es ++ more)))
+    (All-head (λ (x : FileName × Item). eq_by_cmp name_cmp name x.0 ≡ false) e es lacks)
     ∙ passed name es more (All-tail (λ (x : FileName × Item). eq_by_cmp name_cmp name x.0 ≡ false) e es lacks)
 
 -- ---- logs
 
-pub logs_pass : (name : FileName) (es : List (ℕ × List ℕ)) → ((number : ℕ) → eq_by_cmp name_cmp name (Log number) ≡ false) → LacksName name (map entry_of (map log_pin es))
+pub logs_pass : (name : FileName) (es : List (ℕ × List ℕ)) → ((number : ℕ) → eq_by_cmp name_cmp name (Log number) ≡ false)
+    → LacksName name (map entry_of (map log_pin es))
 logs_pass name [] other = All-nil (λ (x : FileName × Item). eq_by_cmp name_cmp name x.0 ≡ false)
-logs_pass name (e ∷ es) other = All-cons (λ (x : FileName × Item). eq_by_cmp name_cmp name x.0 ≡ false) (entry_of (log_pin e)) (map entry_of (map log_pin es)) (other e.0) (logs_pass name es other)
+logs_pass name (e ∷ es) other = All-cons (λ (x : FileName × Item). eq_by_cmp name_cmp name x.0 ≡ false) (entry_of (log_pin e))
+    (map entry_of (map log_pin es)) (other e.0) (logs_pass name es other)
 
 pub log_found : (number : ℕ) (es : List (ℕ × List ℕ)) (more : Entries) → finmap.find name_cmp (Log number) more ≡ None
     → finmap.find name_cmp (Log number) (map entry_of (map log_pin es) ++ more) ≡ option_map A_file (finmap.find nat_cmp number es)
 log_found number [] more none = none
 log_found number (e ∷ es) more none = by_test (eq_by_cmp nat_cmp number e.0) (log_found number es more none)
   where
-    by_test : (b : Bool) → finmap.find name_cmp (Log number) (map entry_of (map log_pin es) ++ more) ≡ option_map A_file (finmap.find nat_cmp number es)
-        → cond b (Some (A_file e.1)) (finmap.find name_cmp (Log number) (map entry_of (map log_pin es) ++ more)) ≡ option_map A_file (cond b (Some e.1) (finmap.find nat_cmp number es))
+    by_test : (b : Bool) → finmap.find name_cmp (Log number) (map entry_of (map log_pin es) ++ more)
+        ≡ option_map A_file (finmap.find nat_cmp number es)
+        → cond b (Some (A_file e.1)) (finmap.find name_cmp (Log number) (map entry_of (map log_pin es) ++ more))
+        ≡ option_map A_file (cond b (Some e.1) (finmap.find nat_cmp number es))
     by_test true rest = refl
     by_test false rest = rest
 
@@ -59,16 +65,20 @@ module _ (d : State) (dir : List ℕ) where
   abbrev pub table_pin : ℕ × Placed → PinnedFile
   table_pin e = record { name = Table e.0; bytes = now_of e.0 }
 
-  pub tables_pass : (name : FileName) (es : List (ℕ × Placed)) → ((number : ℕ) → eq_by_cmp name_cmp name (Table number) ≡ false) → LacksName name (map entry_of (map table_pin es))
+  pub tables_pass : (name : FileName) (es : List (ℕ × Placed))
+      → ((number : ℕ) → eq_by_cmp name_cmp name (Table number) ≡ false) → LacksName name (map entry_of (map table_pin es))
   tables_pass name [] other = All-nil (λ (x : FileName × Item). eq_by_cmp name_cmp name x.0 ≡ false)
-  tables_pass name (e ∷ es) other = All-cons (λ (x : FileName × Item). eq_by_cmp name_cmp name x.0 ≡ false) (entry_of (table_pin e)) (map entry_of (map table_pin es)) (other e.0) (tables_pass name es other)
+  tables_pass name (e ∷ es) other = All-cons (λ (x : FileName × Item). eq_by_cmp name_cmp name x.0 ≡ false)
+      (entry_of (table_pin e)) (map entry_of (map table_pin es)) (other e.0) (tables_pass name es other)
 
   pub table_found : (number : ℕ) (placed : Placed) (es : List (ℕ × Placed)) (more : Entries) → finmap.find nat_cmp number es ≡ Some placed
       → finmap.find name_cmp (Table number) (map entry_of (map table_pin es) ++ more) ≡ Some (A_file (now_of number))
   table_found number placed [] more is = absurd (cc)
   table_found number placed (e ∷ es) more is =
-      elim (eq_by_cmp nat_cmp number e.0) as (λ b. eq_by_cmp nat_cmp number e.0 ≡ b → cond b (Some e.1) (finmap.find nat_cmp number es) ≡ Some placed
-      → cond b (Some (A_file (now_of e.0))) (finmap.find name_cmp (Table number) (map entry_of (map table_pin es) ++ more)) ≡ Some (A_file (now_of number))) [
+      elim (eq_by_cmp nat_cmp number e.0) as (λ b. eq_by_cmp nat_cmp number e.0 ≡ b
+      → cond b (Some e.1) (finmap.find nat_cmp number es) ≡ Some placed
+      → cond b (Some (A_file (now_of e.0))) (finmap.find name_cmp (Table number) (map entry_of (map table_pin es) ++ more))
+      ≡ Some (A_file (now_of number))) [
         | true ↦ λ same h. ap (λ (n : ℕ). Some (A_file (now_of n))) (sym (equal_number number e.0 same))
         | false ↦ λ other h. table_found number placed es more h
       ] refl is

@@ -68,16 +68,19 @@ use Rattle.lsm_refine.proofs.TiedLemmas.{tied_reads, logged_many}
 -- ---- entries of a map
 
 -- what holds of each pair that is found holds of each entry
-each_entry : (P : ℕ × Placed → Type 0) (es : List (ℕ × Placed)) → T (is_sorted nat_cmp es) → ((number : ℕ) (placed : Placed) → finmap.find nat_cmp number es ≡ Some placed → P (number, placed)) → All P es
+each_entry : (P : ℕ × Placed → Type 0) (es : List (ℕ × Placed)) → T (is_sorted nat_cmp es)
+    → ((number : ℕ) (placed : Placed) → finmap.find nat_cmp number es ≡ Some placed → P (number, placed)) → All P es
 each_entry P [] sorted each = All-nil P
 each_entry P (e ∷ es) sorted each =
     let parts = all_below (below_all nat_cmp e.0 es) (is_sorted nat_cmp es) sorted in
-    All-cons P e es (each e.0 e.1 (found_first e es)) (each_entry P es parts.1 (λ number placed is. each number placed (found_later e es number placed parts.0 is)))
+    All-cons P e es (each e.0 e.1 (found_first e es)) (each_entry P es parts.1
+    (λ number placed is. each number placed (found_later e es number placed parts.0 is)))
 
 -- what holds of each entry of a list holds of what a function makes of it
 all_mapped : {A B : Type 0} (f : A → B) (P : B → Type 0) (xs : List A) → All (λ (x : A). P (f x)) xs → All P (map f xs)
 all_mapped f P [] each = All-nil P
-all_mapped f P (x ∷ xs) each = All-cons P (f x) (map f xs) (All-head (λ y. P (f y)) x xs each) (all_mapped f P xs (All-tail (λ y. P (f y)) x xs each))
+all_mapped f P (x ∷ xs) each = All-cons P (f x) (map f xs) (All-head (λ y. P (f y)) x xs each)
+    (all_mapped f P xs (All-tail (λ y. P (f y)) x xs each))
 
 file_bytes : (o : Option (List ℕ)) → bytes_in (option_map A_file o) ≡ o
 file_bytes None = refl
@@ -102,7 +105,8 @@ module _ (d : State) (dir : List ℕ) (kept : Kept) (parts : Parts) (sane : Sane
   abbrev files : List PinnedFile
   files = map (table_pin d dir) tables ++ (map log_pin logs ++ manifest_pin ∷ [])
 
-  table_now : (number : ℕ) (placed : Placed) → finmap.get kept.version number ≡ Some placed → (bytes : List ℕ) × (bytes_at (tree_now d) (path_in dir (Table number)) ≡ Some bytes) × (length bytes ≡ placed.info.size)
+  table_now : (number : ℕ) (placed : Placed) → finmap.get kept.version number ≡ Some placed
+      → (bytes : List ℕ) × (bytes_at (tree_now d) (path_in dir (Table number)) ≡ Some bytes) × (length bytes ≡ placed.info.size)
   table_now number placed is =
       let has = sane.tables.each number placed is in
       (has.bytes, whole_image d (path_in dir (Table number)) has.bytes has.file (tree_now d) (reads_image d), has.size)
@@ -121,18 +125,22 @@ module _ (d : State) (dir : List ℕ) (kept : Kept) (parts : Parts) (sane : Sane
       (λ number placed is.
       let here = finmap.get-entries kept.version number ∙ is in
       let now = table_now number placed here in
-      there_now (table_pin d dir (number, placed)) (sane.tables.each number placed here).numbered (now.1 ∙ ap Some (sym (ap bytes_or_none now.1)))))
+      there_now (table_pin d dir (number, placed)) (sane.tables.each number placed here).numbered
+      (now.1 ∙ ap Some (sym (ap bytes_or_none now.1)))))
 
   abbrev IsLogThere : ℕ × List ℕ → Type 0
   IsLogThere e = IsFileName (Log e.0) × (bytes_at (tree_now d) (path_in dir (Log e.0)) ≡ Some e.1)
 
-  older_there : (first : ℕ) (older : List LogPart) (last : ℕ × List ℕ) → All (IsOlder kept parts.last.number) older → AreSynced d dir first older → IsLogThere last → All IsLogThere (texts_from first older ++ last ∷ [])
+  older_there : (first : ℕ) (older : List LogPart) (last : ℕ × List ℕ) → All (IsOlder kept parts.last.number) older
+      → AreSynced d dir first older → IsLogThere last → All IsLogThere (texts_from first older ++ last ∷ [])
   older_there first [] last fits synced there = All-cons IsLogThere last [] there (All-nil IsLogThere)
   older_there first (log ∷ older) last fits synced there =
-      All-cons IsLogThere (log.number, wal_text (in_sequence first log.batches)) (texts_from (sequence_after first log.batches) older ++ last ∷ []) (
+      All-cons IsLogThere (log.number, wal_text (in_sequence first log.batches))
+      (texts_from (sequence_after first log.batches) older ++ last ∷ []) (
         (All-head (IsOlder kept parts.last.number) log older fits).0,
         synced_image d (path_in dir (Log log.number)) (in_sequence first log.batches)
-            (subst (IsWal d (path_in dir (Log log.number)) (in_sequence first log.batches)) (sym (sequence_length first log.batches)) synced.0) (tree_now d) (reads_image d),
+            (subst (IsWal d (path_in dir (Log log.number)) (in_sequence first log.batches))
+            (sym (sequence_length first log.batches)) synced.0) (tree_now d) (reads_image d),
       )
       (older_there (sequence_after first log.batches) older last (All-tail (IsOlder kept parts.last.number) log older fits) synced.1 there)
 
@@ -143,18 +151,23 @@ module _ (d : State) (dir : List ℕ) (kept : Kept) (parts : Parts) (sane : Sane
       ((last_is d dir kept parts (readable d dir kept parts sane).logs).1, held.file.is_now ∙ ap Some (held.whole ∙ wal.text))
 
   texts_there : All IsLogThere texts
-  texts_there = older_there (first_logged parts) parts.older (parts.last.number, last_text parts) (older_are d dir kept parts (readable d dir kept parts sane).logs) sane.logs.older last_there
+  texts_there = older_there (first_logged parts) parts.older (parts.last.number, last_text parts)
+      (older_are d dir kept parts (readable d dir kept parts sane).logs) sane.logs.older last_there
 
   logs_there : All IsThere (map log_pin logs)
-  logs_there = all_mapped log_pin IsThere logs (all_held (λ (e : ℕ × List ℕ). IsThere (log_pin e)) texts (λ k x within. there_now (log_pin _) (texts_there k x within).0 (texts_there k x within).1))
+  logs_there = all_mapped log_pin IsThere logs (all_held (λ (e : ℕ × List ℕ). IsThere (log_pin e)) texts
+      (λ k x within. there_now (log_pin _) (texts_there k x within).0 (texts_there k x within).1))
 
   manifest_there : IsThere manifest_pin
-  manifest_there = there_now manifest_pin sane.current.numbered (whole_image d (path_in dir (Manifest kept.manifest)) (reading.manifest_text parts.edits) sane.edits.file (tree_now d) (reads_image d))
+  manifest_there = there_now manifest_pin sane.current.numbered
+      (whole_image d (path_in dir (Manifest kept.manifest)) (reading.manifest_text parts.edits) sane.edits.file (tree_now d)
+      (reads_image d))
 
   pub files_there : PinFiles d dir files
   files_there =
       All-append IsThere (map (table_pin d dir) tables) (map log_pin logs ++ manifest_pin ∷ []) tables_there
-      (All-append IsThere (map log_pin logs) (manifest_pin ∷ []) logs_there (All-cons IsThere manifest_pin [] manifest_there (All-nil IsThere)))
+      (All-append IsThere (map log_pin logs) (manifest_pin ∷ []) logs_there
+      (All-cons IsThere manifest_pin [] manifest_there (All-nil IsThere)))
 
   -- ---- their folder has the same parts
 
@@ -179,7 +192,8 @@ module _ (d : State) (dir : List ℕ) (kept : Kept) (parts : Parts) (sane : Sane
       ∙ ap (λ (l : Entries). table_entries ++ l) (map-append entry_of (map log_pin logs) (manifest_pin ∷ []))
 
   -- what is found under a name that isn't CURRENT's
-  found_in : (name : FileName) → eq_by_cmp name_cmp name Current ≡ false → finmap.get folder name ≡ finmap.find name_cmp name (table_entries ++ (log_entries ++ manifest_entry))
+  found_in : (name : FileName) → eq_by_cmp name_cmp name Current ≡ false
+      → finmap.get folder name ≡ finmap.find name_cmp name (table_entries ++ (log_entries ++ manifest_entry))
   unfolding folder_of_pin
   found_in name other =
       finmap.get-from_entries names_total ((Current, A_file (current_text kept.manifest)) ∷ map entry_of files) name
@@ -190,12 +204,14 @@ module _ (d : State) (dir : List ℕ) (kept : Kept) (parts : Parts) (sane : Sane
   unfolding folder_of_pin
   current_at = ap bytes_in
       (finmap.get-from_entries names_total ((Current, A_file (current_text kept.manifest)) ∷ map entry_of files) Current
-      ∙ ap (λ (b : Bool). cond b (Some (A_file (current_text kept.manifest))) (finmap.find name_cmp Current (map entry_of files))) (name_itself Current))
+      ∙ ap (λ (b : Bool). cond b (Some (A_file (current_text kept.manifest)))
+      (finmap.find name_cmp Current (map entry_of files))) (name_itself Current))
 
   manifest_at : file_at folder (Manifest kept.manifest) ≡ Some (reading.manifest_text parts.edits)
   manifest_at = ap bytes_in
       (found_in (Manifest kept.manifest) refl
-      ∙ passed (Manifest kept.manifest) table_entries (log_entries ++ manifest_entry) (tables_pass d dir (Manifest kept.manifest) tables (λ number. refl))
+      ∙ passed (Manifest kept.manifest) table_entries (log_entries ++ manifest_entry)
+      (tables_pass d dir (Manifest kept.manifest) tables (λ number. refl))
       ∙ passed (Manifest kept.manifest) log_entries manifest_entry (logs_pass (Manifest kept.manifest) logs (λ number. refl))
       ∙ ap (λ (b : Bool). cond b (Some (A_file (reading.manifest_text parts.edits))) None) (name_itself (Manifest kept.manifest)))
 
@@ -207,18 +223,22 @@ module _ (d : State) (dir : List ℕ) (kept : Kept) (parts : Parts) (sane : Sane
       ∙ log_found number logs manifest_entry refl)
       ∙ file_bytes (finmap.find nat_cmp number logs)
 
-  table_at : (number : ℕ) (placed : Placed) → finmap.get kept.version number ≡ Some placed → file_at folder (Table number) ≡ Some (now_of d dir number)
+  table_at : (number : ℕ) (placed : Placed) → finmap.get kept.version number ≡ Some placed
+      → file_at folder (Table number) ≡ Some (now_of d dir number)
   table_at number placed is = ap bytes_in
       (found_in (Table number) refl
       ∙ table_found d dir number placed tables (log_entries ++ manifest_entry) (sym (finmap.get-entries kept.version number) ∙ is))
 
-  table_there : (number : ℕ) (placed : Placed) → finmap.get (tables_after parts.edits) number ≡ Some placed → reading.HasTable folder number placed (parts.rows number)
+  table_there : (number : ℕ) (placed : Placed) → finmap.get (tables_after parts.edits) number ≡ Some placed
+      → reading.HasTable folder number placed (parts.rows number)
   table_there number placed is =
-      let live : finmap.get kept.version number ≡ Some placed = ap (λ (tables : Tables). finmap.get tables number) sane.edits.version ∙ is in
+      let live : finmap.get kept.version number ≡ Some placed =
+      ap (λ (tables : Tables). finmap.get tables number) sane.edits.version ∙ is in
       let has = sane.tables.each number placed live in
       record {
         bytes = has.bytes;
-        there = table_at number placed live ∙ ap Some (ap bytes_or_none (whole_image d (path_in dir (Table number)) has.bytes has.file (tree_now d) (reads_image d)));
+        there = table_at number placed live ∙ ap Some (ap bytes_or_none
+            (whole_image d (path_in dir (Table number)) has.bytes has.file (tree_now d) (reads_image d)));
         table = has.table;
         size = has.size;
       }
@@ -235,12 +255,15 @@ module _ (d : State) (dir : List ℕ) (kept : Kept) (parts : Parts) (sane : Sane
   log_entries_are = same_entries nat_cmp nat_cmp_total logs logs_sorted finmap.nat_cmp-IsAntisymmetric
 
   logs_live : All (λ (e : ℕ × List ℕ). kept.log ≤ e.0) logs
-  logs_live = all_held (λ (e : ℕ × List ℕ). kept.log ≤ e.0) texts (as_entries texts (subst (All (λ (n : ℕ). (kept.log ≤ n) × IsFileName (Log n))) numbers sane.logs.live))
+  logs_live = all_held (λ (e : ℕ × List ℕ). kept.log ≤ e.0) texts
+      (as_entries texts (subst (All (λ (n : ℕ). (kept.log ≤ n) × IsFileName (Log n))) numbers sane.logs.live))
     where
-      as_entries : (some : List (ℕ × List ℕ)) → All (λ (n : ℕ). (kept.log ≤ n) × IsFileName (Log n)) (numbers_in some) → All (λ (e : ℕ × List ℕ). kept.log ≤ e.0) some
+      as_entries : (some : List (ℕ × List ℕ)) → All (λ (n : ℕ). (kept.log ≤ n) × IsFileName (Log n)) (numbers_in some)
+          → All (λ (e : ℕ × List ℕ). kept.log ≤ e.0) some
       as_entries [] each = All-nil (λ (e : ℕ × List ℕ). kept.log ≤ e.0)
       as_entries (e ∷ some) each =
-          All-cons (λ (x : ℕ × List ℕ). kept.log ≤ x.0) e some (All-head (λ (n : ℕ). (kept.log ≤ n) × IsFileName (Log n)) e.0 (numbers_in some) each).0
+          All-cons (λ (x : ℕ × List ℕ). kept.log ≤ x.0) e some
+          (All-head (λ (n : ℕ). (kept.log ≤ n) × IsFileName (Log n)) e.0 (numbers_in some) each).0
           (as_entries some (All-tail (λ (n : ℕ). (kept.log ≤ n) × IsFileName (Log n)) e.0 (numbers_in some) each))
 
   found_log : (number : ℕ) → finmap.get (finmap.from_entries {R = nat_cmp} logs) number ≡ finmap.find nat_cmp number logs
@@ -250,7 +273,8 @@ module _ (d : State) (dir : List ℕ) (kept : Kept) (parts : Parts) (sane : Sane
   has_logs = record {
     there = λ number least. log_at number ∙ sym (found_log number);
     live = λ number bytes is.
-        subst (λ (n : ℕ). n ≤ number) sane.edits.log (found_has (λ (n : ℕ) (b : List ℕ). kept.log ≤ n) logs number bytes logs_live (sym (found_log number) ∙ is));
+        subst (λ (n : ℕ). n ≤ number) sane.edits.log (found_has
+        (λ (n : ℕ) (b : List ℕ). kept.log ≤ n) logs number bytes logs_live (sym (found_log number) ∙ is));
   }
 
   abbrev batches : List (List (List Op))
@@ -274,9 +298,12 @@ module _ (d : State) (dir : List ℕ) (kept : Kept) (parts : Parts) (sane : Sane
         (held_read (first_logged parts) texts batches all_read);
   }
 
-  pub folder_stands : Stands folder (contents_of (rows_of_all parts.edits parts.rows batches)) (sequence_after (last_after parts.edits) (all_of batches))
+  pub folder_stands : Stands folder (contents_of (rows_of_all parts.edits parts.rows batches))
+      (sequence_after (last_after parts.edits) (all_of batches))
   folder_stands =
-      subst (λ (l : List (List Op)). Stands folder (contents_of (rows_of_tables (tables_after parts.edits) parts.rows ++ rows_of (first_logged parts) l)) (sequence_after (last_after parts.edits) l))
+      subst (λ (l : List (List Op)). Stands folder (contents_of
+      (rows_of_tables (tables_after parts.edits) parts.rows ++ rows_of (first_logged parts) l))
+      (sequence_after (last_after parts.edits) l))
       (held_all (first_logged parts) texts batches all_read)
       (parts_stand folder parts.edits parts.rows (finmap.from_entries logs) (held_batches texts batches) has_parts sane.lawful)
 
@@ -293,11 +320,14 @@ module _ (d : State) (dir : List ℕ) (kept : Kept) (parts : Parts) (sane : Sane
         let now = table_now number placed (finmap.get-entries kept.version number ∙ is) in
         ap (λ (n : ℕ). (Table number, n)) (sym (ap (λ (o : Option (List ℕ)). length (bytes_or_none o)) now.1 ∙ now.2))))
       where
-        each_alike : (es : List (ℕ × Placed)) → All (λ (e : ℕ × Placed). listed (table_listed e) ≡ held (table_pin d dir e)) es → map listed (map table_listed es) ≡ map held (map (table_pin d dir) es)
+        each_alike : (es : List (ℕ × Placed)) → All (λ (e : ℕ × Placed). listed (table_listed e) ≡ held (table_pin d dir e)) es
+            → map listed (map table_listed es) ≡ map held (map (table_pin d dir) es)
         each_alike [] each = refl
         each_alike (e ∷ es) each =
-            ap (λ (x : FileName × ℕ). x ∷ map listed (map table_listed es)) (All-head (λ (x : ℕ × Placed). listed (table_listed x) ≡ held (table_pin d dir x)) e es each)
-            ∙ ap (λ (l : Listed). held (table_pin d dir e) ∷ l) (each_alike es (All-tail (λ (x : ℕ × Placed). listed (table_listed x) ≡ held (table_pin d dir x)) e es each))
+            ap (λ (x : FileName × ℕ). x ∷ map listed (map table_listed es))
+            (All-head (λ (x : ℕ × Placed). listed (table_listed x) ≡ held (table_pin d dir x)) e es each)
+            ∙ ap (λ (l : Listed). held (table_pin d dir e) ∷ l)
+            (each_alike es (All-tail (λ (x : ℕ × Placed). listed (table_listed x) ≡ held (table_pin d dir x)) e es each))
 
     abbrev older_listed : List CutFile
     older_listed = logs_listed kept.older_len (take (length kept.logs - 1) kept.logs)
@@ -307,7 +337,8 @@ module _ (d : State) (dir : List ℕ) (kept : Kept) (parts : Parts) (sane : Sane
 
     logs_same : map listed (older_listed ++ last_listed) ≡ map held (map log_pin logs)
     logs_same =
-        subst (λ (ns : List ℕ). map listed (logs_listed kept.older_len (take (length ns - 1) ns) ++ logs_listed kept.log_len (drop (length ns - 1) ns)) ≡ map held (map log_pin logs))
+        subst (λ (ns : List ℕ). map listed (logs_listed kept.older_len (take (length ns - 1) ns)
+        ++ logs_listed kept.log_len (drop (length ns - 1) ns)) ≡ map held (map log_pin logs))
         (sym sane.logs.numbers)
         (logs_alike (first_logged parts) parts.last (last_text parts) parts.older kept.older_len kept.log_len
         (subst (λ (ns : List ℕ). length ns ≤ 2) sane.logs.numbers few) works.older_len works.log_len)
@@ -318,8 +349,10 @@ module _ (d : State) (dir : List ℕ) (kept : Kept) (parts : Parts) (sane : Sane
     pub files_alike : map listed (files_listed kept) ≡ map held files
     files_alike =
         map-append listed (map table_listed tables) (older_listed ++ (last_listed ++ manifest_listed kept ∷ []))
-        ∙ ap (λ (l : List CutFile). map listed (map table_listed tables) ++ map listed l) (sym (append_assoc older_listed last_listed (manifest_listed kept ∷ [])))
-        ∙ ap (λ (l : Listed). map listed (map table_listed tables) ++ l) (map-append listed (older_listed ++ last_listed) (manifest_listed kept ∷ []))
+        ∙ ap (λ (l : List CutFile). map listed (map table_listed tables) ++ map listed l)
+        (sym (append_assoc older_listed last_listed (manifest_listed kept ∷ [])))
+        ∙ ap (λ (l : Listed). map listed (map table_listed tables) ++ l)
+        (map-append listed (older_listed ++ last_listed) (manifest_listed kept ∷ []))
         ∙ ap (λ (l : Listed). map listed (map table_listed tables) ++ (l ++ listed (manifest_listed kept) ∷ [])) logs_same
         ∙ ap (λ (x : FileName × ℕ). map listed (map table_listed tables) ++ (map held (map log_pin logs) ++ x ∷ [])) manifest_same
         ∙ ap (λ (l : Listed). l ++ (map held (map log_pin logs) ++ held manifest_pin ∷ [])) tables_alike
@@ -333,14 +366,20 @@ listed_stand d v s is few =
     let parts : Parts = is.parts in
     let last : List (List Op) = parts.last.batches in
     let all : take (length last) last ≡ last = take_all (length last) last (omega arith) in
-    let synced : parts.synced ≤ length last = subst (λ (n : ℕ). parts.synced ≤ n) (sequence_length (first_in_last parts) last) is.sane.logs.last.within in
+    let synced : parts.synced ≤ length last = subst (λ (n : ℕ). parts.synced ≤ n)
+    (sequence_length (first_in_last parts) last) is.sane.logs.last.within in
     let shows = tied_reads parts s is.sane.lawful is.tied (length last) synced in
-    let accepted : take (is.tied.flushed + (length (batches_in parts.older) + length last)) s.accepted ≡ take (length s.accepted) s.accepted =
+    let accepted : take (is.tied.flushed + (length (batches_in parts.older) + length last)) s.accepted
+    ≡ take (length s.accepted) s.accepted =
     ap (λ (n : ℕ). take n s.accepted) (logged_many parts s is.tied) in
-    let contents : contents_of (rows_of_all parts.edits parts.rows (batches_with parts last)) ≡ replayed s.opening (take (length s.accepted) s.accepted) =
-    ap (λ (l : List (List Op)). contents_of (rows_of_all parts.edits parts.rows (batches_with parts l))) (sym all) ∙ shows.contents ∙ ap (replayed s.opening) accepted in
-    let sequence : sequence_after (last_after parts.edits) (all_of (batches_with parts last)) ≡ sequence_after s.began (take (length s.accepted) s.accepted) =
-    ap (λ (l : List (List Op)). sequence_after (last_after parts.edits) (all_of (batches_with parts l))) (sym all) ∙ shows.sequence ∙ ap (sequence_after s.began) accepted in
+    let contents : contents_of (rows_of_all parts.edits parts.rows (batches_with parts last))
+    ≡ replayed s.opening (take (length s.accepted) s.accepted) =
+    ap (λ (l : List (List Op)). contents_of (rows_of_all parts.edits parts.rows (batches_with parts l)))
+    (sym all) ∙ shows.contents ∙ ap (replayed s.opening) accepted in
+    let sequence : sequence_after (last_after parts.edits) (all_of (batches_with parts last))
+    ≡ sequence_after s.began (take (length s.accepted) s.accepted) =
+    ap (λ (l : List (List Op)). sequence_after (last_after parts.edits) (all_of (batches_with parts l)))
+    (sym all) ∙ shows.sequence ∙ ap (sequence_after s.began) accepted in
     let there : Files = folder_of_pin v.kept.manifest (files d v.dir v.kept parts is.sane) in
     record {
       files = files d v.dir v.kept parts is.sane;
@@ -360,12 +399,14 @@ cut_lists v w rule cut c =
     let done = c.by.1 in
     subst (λ (k : Kept). ListsLive k cut) (sym done.rest) (record { manifest = done.lists.manifest; files = done.lists.files })
 
-pub cut_stands_now : (d : State) (v w : Shown) (s : model.State) (rule : FlushRule) (cut : Cut) → Caused v (event.Cut rule) (reply.Cut (Ok cut)) w → IsRunning d w s → HasFewLogs w.kept → ListedStand cut s
+pub cut_stands_now : (d : State) (v w : Shown) (s : model.State) (rule : FlushRule) (cut : Cut)
+    → Caused v (event.Cut rule) (reply.Cut (Ok cut)) w → IsRunning d w s → HasFewLogs w.kept → ListedStand cut s
 cut_stands_now d v w s rule cut c is few =
     let lists = cut_lists v w rule cut c in
     let now = listed_stand d w s is few in
     record {
       files = now.files;
       are = ap (map listed) lists.files ∙ now.are;
-      stands = subst (λ (m : ℕ). Stands (folder_of_pin m now.files) (shown_at s (length s.accepted)).contents (shown_at s (length s.accepted)).sequence) (sym lists.manifest) now.stands;
+      stands = subst (λ (m : ℕ). Stands (folder_of_pin m now.files) (shown_at s (length s.accepted)).contents
+          (shown_at s (length s.accepted)).sequence) (sym lists.manifest) now.stands;
     }

@@ -62,7 +62,8 @@ below_held q (e ∷ es) low =
     let parts = all_below (is_lt (nat_cmp q e.0)) (below_all nat_cmp q es) low in
     by_text e.0 e.1 parts.0 (below_held q es parts.1)
   where
-    by_text : (number : ℕ) (text : List ℕ) → T (is_lt (nat_cmp q number)) → T (below_all nat_cmp q (held_texts es)) → T (below_all nat_cmp q (held_text number text ++ held_texts es))
+    by_text : (number : ℕ) (text : List ℕ) → T (is_lt (nat_cmp q number)) → T (below_all nat_cmp q (held_texts es))
+        → T (below_all nat_cmp q (held_text number text ++ held_texts es))
     by_text number [] here rest = rest
     by_text number (b ∷ bytes) here rest = both (is_lt (nat_cmp q number)) (below_all nat_cmp q (held_texts es)) here rest
 
@@ -72,7 +73,8 @@ sorted_held (e ∷ es) sorted =
     let parts = all_below (below_all nat_cmp e.0 es) (is_sorted nat_cmp es) sorted in
     by_text e.0 e.1 (below_held e.0 es parts.0) (sorted_held es parts.1)
   where
-    by_text : (number : ℕ) (text : List ℕ) → T (below_all nat_cmp number (held_texts es)) → T (is_sorted nat_cmp (held_texts es)) → T (is_sorted nat_cmp (held_text number text ++ held_texts es))
+    by_text : (number : ℕ) (text : List ℕ) → T (below_all nat_cmp number (held_texts es))
+        → T (is_sorted nat_cmp (held_texts es)) → T (is_sorted nat_cmp (held_text number text ++ held_texts es))
     by_text number [] low rest = rest
     by_text number (b ∷ bytes) low rest = both (below_all nat_cmp number (held_texts es)) (is_sorted nat_cmp (held_texts es)) low rest
 
@@ -80,39 +82,47 @@ sorted_held (e ∷ es) sorted =
 
 -- an empty log has no batches
 none_in_empty : (is_last : Bool) (expected : ℕ) (batches : List (List Op)) → IsLog is_last expected [] batches → batches ≡ []
-none_in_empty is_last expected batches log = (read_once expected [] batches [] _ _ log.reading (whole_reads expected [] (All-nil IsLogged))).0
+none_in_empty is_last expected batches log = (read_once expected [] batches [] _ _ log.reading
+    (whole_reads expected [] (All-nil IsLogged))).0
 
 -- a log that ends with a record may be the last one, and any other
 may_be : (is_last : Bool) (torn : Option ℕ) → may_end false torn ≡ true → may_end is_last torn ≡ true
 may_be is_last None ends = refl
 may_be is_last (Some place) ends = absurd (cc)
 
-as_last : (is_last : Bool) (expected : ℕ) (text : List ℕ) (batches : List (List Op)) → IsLog false expected text batches → IsLog is_last expected text batches
+as_last : (is_last : Bool) (expected : ℕ) (text : List ℕ) (batches : List (List Op)) → IsLog false expected text batches
+    → IsLog is_last expected text batches
 as_last is_last expected text batches log = record { torn = log.torn; reading = log.reading; ends = may_be is_last log.torn log.ends }
 
 not_empty : (e : ℕ × List ℕ) (es : List (ℕ × List ℕ)) → is_empty (e ∷ es) ≡ false
 not_empty e es = grind (arith, nat_tests)
 
-fewer_behind : (es : List (ℕ × List ℕ)) (expected : ℕ) (text : List ℕ) (batches : List (List Op)) → IsLog (is_empty es) expected text batches → IsLog (is_empty (held_texts es)) expected text batches
+fewer_behind : (es : List (ℕ × List ℕ)) (expected : ℕ) (text : List ℕ) (batches : List (List Op))
+    → IsLog (is_empty es) expected text batches → IsLog (is_empty (held_texts es)) expected text batches
 fewer_behind [] expected text batches log = log
 fewer_behind (e ∷ es) expected text batches log =
-    as_last (is_empty (held_texts (e ∷ es))) expected text batches (subst (λ (b : Bool). IsLog b expected text batches) (not_empty e es) log)
+    as_last (is_empty (held_texts (e ∷ es))) expected text batches
+    (subst (λ (b : Bool). IsLog b expected text batches) (not_empty e es) log)
 
-pub held_read : (expected : ℕ) (es : List (ℕ × List ℕ)) (all : List (List (List Op))) → AreLogs expected es all → AreLogs expected (held_texts es) (held_batches es all)
+pub held_read : (expected : ℕ) (es : List (ℕ × List ℕ)) (all : List (List (List Op))) → AreLogs expected es all
+    → AreLogs expected (held_texts es) (held_batches es all)
 unfolding AreLogs
 held_read expected [] [] are = tt
 held_read expected [] (batches ∷ more) are = absurd are
 held_read expected (e ∷ es) [] are = absurd are
 held_read expected (e ∷ es) (batches ∷ more) are = by_text e.0 e.1 are.0 (held_read (sequence_after expected batches) es more are.1)
   where
-    by_text : (number : ℕ) (text : List ℕ) → IsLog (is_empty es) expected text batches → AreLogs (sequence_after expected batches) (held_texts es) (held_batches es more)
+    by_text : (number : ℕ) (text : List ℕ) → IsLog (is_empty es) expected text batches
+        → AreLogs (sequence_after expected batches) (held_texts es) (held_batches es more)
         → AreLogs expected (held_text number text ++ held_texts es) (held_batch text batches ++ held_batches es more)
     by_text number [] here rest =
-        subst (λ (b : List (List Op)). AreLogs (sequence_after expected b) (held_texts es) (held_batches es more)) (none_in_empty (is_empty es) expected batches here) rest
+        subst (λ (b : List (List Op)). AreLogs (sequence_after expected b) (held_texts es) (held_batches es more))
+        (none_in_empty (is_empty es) expected batches here) rest
     by_text number (b ∷ bytes) here rest = (fewer_behind es expected (b ∷ bytes) batches here, rest)
 
 -- they have all batches
-pub held_all : (expected : ℕ) (es : List (ℕ × List ℕ)) (all : List (List (List Op))) → AreLogs expected es all → all_of (held_batches es all) ≡ all_of all
+pub held_all : (expected : ℕ) (es : List (ℕ × List ℕ)) (all : List (List (List Op))) → AreLogs expected es all
+    → all_of (held_batches es all) ≡ all_of all
 unfolding AreLogs
 held_all expected [] [] are = refl
 held_all expected [] (batches ∷ more) are = absurd are
@@ -135,7 +145,8 @@ Held = List (FileName × ℕ)
 none_before : (n : ℕ) → 0 + n ≡ n
 none_before n = omega arith
 
-one_listed : (number : ℕ) (text : List ℕ) → map listed (logs_listed (length text) (number ∷ [])) ≡ map held (map log_pin (held_text number text))
+one_listed : (number : ℕ) (text : List ℕ) → map listed (logs_listed (length text) (number ∷ []))
+    ≡ map held (map log_pin (held_text number text))
 one_listed number [] = refl
 one_listed number (b ∷ bytes) = refl
 
@@ -144,7 +155,8 @@ none_listed zero = refl
 none_listed (suc len) = refl
 
 -- Of two logs at most each one is listed with its text's length, where it isn't empty.
-pub logs_alike : (first : ℕ) (last : LogPart) (text : List ℕ) (older : List LogPart) (older_len log_len : ℕ) → length (numbers_of (older ++ last ∷ [])) ≤ 2
+pub logs_alike : (first : ℕ) (last : LogPart) (text : List ℕ) (older : List LogPart) (older_len log_len : ℕ)
+    → length (numbers_of (older ++ last ∷ [])) ≤ 2
     → older_len ≡ sum_by (λ (t : ℕ × List ℕ). length t.1) (texts_from first older) → log_len ≡ length text
     → map listed (logs_listed older_len (take (length (numbers_of (older ++ last ∷ [])) - 1) (numbers_of (older ++ last ∷ [])))
     ++ logs_listed log_len (drop (length (numbers_of (older ++ last ∷ [])) - 1) (numbers_of (older ++ last ∷ []))))
@@ -157,7 +169,8 @@ logs_alike first last text [] older_len log_len few older_is log_is =
 logs_alike first last text (log ∷ []) older_len log_len few older_is log_is =
     let old : List ℕ = wal_text (in_sequence first log.batches) in
     map-append listed (logs_listed older_len (log.number ∷ [])) (logs_listed log_len (last.number ∷ []))
-    ∙ ap (λ (n : ℕ). map listed (logs_listed n (log.number ∷ [])) ++ map listed (logs_listed log_len (last.number ∷ []))) (older_is ∙ none_before (length old))
+    ∙ ap (λ (n : ℕ). map listed (logs_listed n (log.number ∷ [])) ++ map listed (logs_listed log_len (last.number ∷ [])))
+    (older_is ∙ none_before (length old))
     ∙ ap (λ (l : Held). l ++ map listed (logs_listed log_len (last.number ∷ []))) (one_listed log.number old)
     ∙ ap (λ (n : ℕ). map held (map log_pin (held_text log.number old)) ++ map listed (logs_listed n (last.number ∷ []))) log_is
     ∙ ap (λ (l : Held). map held (map log_pin (held_text log.number old)) ++ l) (one_listed last.number text)

@@ -31,7 +31,8 @@ numbers_in es = map (λ (e : ℕ × List ℕ). e.0) es
 
 below_by : (q : ℕ) (es : List (ℕ × List ℕ)) → AllByRecursion (λ (n : ℕ). nat_cmp q n ≡ Less) (numbers_in es) → T (below_all nat_cmp q es)
 below_by q [] low = tt
-below_by q (e ∷ es) low = both (is_lt (nat_cmp q e.0)) (below_all nat_cmp q es) (subst (λ (o : Ordering). T (is_lt o)) (sym low.0) tt) (below_by q es low.1)
+below_by q (e ∷ es) low = both (is_lt (nat_cmp q e.0)) (below_all nat_cmp q es)
+    (subst (λ (o : Ordering). T (is_lt o)) (sym low.0) tt) (below_by q es low.1)
 
 pub sorted_by : (es : List (ℕ × List ℕ)) → IsStrictlySortedBy nat_cmp (numbers_in es) → T (is_sorted nat_cmp es)
 unfolding IsStrictlySortedBy
@@ -44,13 +45,16 @@ itself : (n : ℕ) → eq_by_cmp nat_cmp n n ≡ true
 itself n = grind (arith, nat_tests)
 
 -- what holds of each entry holds of the one that is found
-pub found_has : (P : ℕ → List ℕ → Type 0) (es : List (ℕ × List ℕ)) (number : ℕ) (bytes : List ℕ) → All (λ (e : ℕ × List ℕ). P e.0 e.1) es → finmap.find nat_cmp number es ≡ Some bytes → P number bytes
+pub found_has : (P : ℕ → List ℕ → Type 0) (es : List (ℕ × List ℕ)) (number : ℕ) (bytes : List ℕ)
+    → All (λ (e : ℕ × List ℕ). P e.0 e.1) es → finmap.find nat_cmp number es ≡ Some bytes → P number bytes
 found_has P [] number bytes each is = cc
 found_has P (e ∷ es) number bytes each is =
-    elim (eq_by_cmp nat_cmp number e.0) as (λ b. eq_by_cmp nat_cmp number e.0 ≡ b → cond b (Some e.1) (finmap.find nat_cmp number es) ≡ Some bytes → P number bytes) [
+    elim (eq_by_cmp nat_cmp number e.0) as (λ b. eq_by_cmp nat_cmp number e.0 ≡ b
+    → cond b (Some e.1) (finmap.find nat_cmp number es) ≡ Some bytes → P number bytes) [
       | true ↦ λ same h.
           let found : e.1 ≡ bytes = some_once e.1 bytes h in
-          subst (λ (n : ℕ). P n bytes) (sym (equal_number number e.0 same)) (subst (P e.0) found (All-head (λ (x : ℕ × List ℕ). P x.0 x.1) e es each))
+          subst (λ (n : ℕ). P n bytes) (sym (equal_number number e.0 same))
+          (subst (P e.0) found (All-head (λ (x : ℕ × List ℕ). P x.0 x.1) e es each))
       | false ↦ λ other h. found_has P es number bytes (All-tail (λ (x : ℕ × List ℕ). P x.0 x.1) e es each) h
     ] refl is
   where
@@ -61,7 +65,8 @@ found_has P (e ∷ es) number bytes each is =
 pub not_among : (es : List (ℕ × List ℕ)) (number : ℕ) → finmap.find nat_cmp number es ≡ None → All (λ (n : ℕ). n ≢ number) (numbers_in es)
 not_among [] number is = All-nil (λ (n : ℕ). n ≢ number)
 not_among (e ∷ es) number is =
-    elim (eq_by_cmp nat_cmp number e.0) as (λ b. eq_by_cmp nat_cmp number e.0 ≡ b → cond b (Some e.1) (finmap.find nat_cmp number es) ≡ None → All (λ (n : ℕ). n ≢ number) (numbers_in (e ∷ es))) [
+    elim (eq_by_cmp nat_cmp number e.0) as (λ b. eq_by_cmp nat_cmp number e.0 ≡ b
+    → cond b (Some e.1) (finmap.find nat_cmp number es) ≡ None → All (λ (n : ℕ). n ≢ number) (numbers_in (e ∷ es))) [
       | true ↦ λ same h. cc
       | false ↦ λ other h. All-cons (λ (n : ℕ). n ≢ number) e.0 (numbers_in es)
           (λ same. let clash : true ≡ false = sym (itself number) ∙ ap (λ (n : ℕ). eq_by_cmp nat_cmp number n) (sym same) ∙ other in cc)
@@ -70,11 +75,14 @@ not_among (e ∷ es) number is =
 
 -- ---- the texts of logs
 
-pub numbers_are : (first : ℕ) (older : List LogPart) (last : LogPart) (text : List ℕ) → numbers_in (texts_from first older ++ (last.number, text) ∷ []) ≡ numbers_of (older ++ last ∷ [])
+pub numbers_are : (first : ℕ) (older : List LogPart) (last : LogPart) (text : List ℕ)
+    → numbers_in (texts_from first older ++ (last.number, text) ∷ []) ≡ numbers_of (older ++ last ∷ [])
 numbers_are first [] last text = refl
-numbers_are first (log ∷ older) last text = ap (λ (l : List ℕ). log.number ∷ l) (numbers_are (sequence_after first log.batches) older last text)
+numbers_are first (log ∷ older) last text = ap (λ (l : List ℕ). log.number ∷ l)
+    (numbers_are (sequence_after first log.batches) older last text)
 
-whole_log : (is_last : Bool) (first : ℕ) (batches : List (List Op)) → All IsLogged (in_sequence first batches) → IsLog is_last first (wal_text (in_sequence first batches)) batches
+whole_log : (is_last : Bool) (first : ℕ) (batches : List (List Op)) → All IsLogged (in_sequence first batches)
+    → IsLog is_last first (wal_text (in_sequence first batches)) batches
 whole_log is_last first batches each = record { torn = None; reading = whole_reads first batches each; ends = refl }
 
 pub last_may : (torn : Option ℕ) → may_end true torn ≡ true
@@ -82,7 +90,8 @@ last_may None = refl
 last_may (Some place) = refl
 
 -- they read to their batches, the last one to these
-pub logs_are : (d : State) (dir : List ℕ) (first : ℕ) (older : List LogPart) (number : ℕ) (text : List ℕ) (read : List (List Op)) → AreSynced d dir first older → IsLog true (sequence_after first (batches_in older)) text read
+pub logs_are : (d : State) (dir : List ℕ) (first : ℕ) (older : List LogPart) (number : ℕ) (text : List ℕ)
+    (read : List (List Op)) → AreSynced d dir first older → IsLog true (sequence_after first (batches_in older)) text read
     → AreLogs first (texts_from first older ++ (number, text) ∷ []) (map (λ (log : LogPart). log.batches) older ++ read ∷ [])
 unfolding AreLogs
 logs_are d dir first [] number text read synced last = (last, tt)

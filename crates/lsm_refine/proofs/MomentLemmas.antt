@@ -13,7 +13,8 @@ use Rattle.lsm_refine.specs.Moments.{ReadsAsCrashed, ImagesShow}
 use Rattle.lsm_refine.proofs.CrashLemmas.{front_reads, image_reads}
 
 -- with no change the story goes on as it is
-pub stays : (story : Story) (P : DiskState → Tree → Type 0) → ((t : Tree) → IsImage (state_of story) t → P (state_of story) t) → GoesOn story story (λ c. Unit {0}) P
+pub stays : (story : Story) (P : DiskState → Tree → Type 0) → ((t : Tree) → IsImage (state_of story) t → P (state_of story) t)
+    → GoesOn story story (λ c. Unit {0}) P
 stays story P each = record {
   more = [];
   grows = λ i. record { start = story.start; log = sym (append-nil story.log) i };

@@ -58,13 +58,15 @@ module _ (head folder : List ℕ) (one : has_slash head ≡ false) (two : has_sl
   deep_differs rest same = apart_from folder head rest two (sym same)
 
   deep_off : (rest : List ℕ) → under folder (head ++ 47 ∷ rest) ≡ None
-  deep_off rest = off_is folder (head ++ 47 ∷ rest) (λ place. ⊎_elim (deep_differs rest) (λ deep. other (first_slash head folder rest deep.0 one two deep.1)) place.is)
+  deep_off rest = off_is folder (head ++ 47 ∷ rest) (λ place. ⊎_elim (deep_differs rest)
+      (λ deep. other (first_slash head folder rest deep.0 one two deep.1)) place.is)
 
 has_more : (xs ys : List ℕ) → 1 ≤ length xs → 1 ≤ length (xs ++ ys)
 has_more [] ys some = absurd (omega (arith, some))
 has_more (x ∷ xs) ys some = omega arith
 
-flat_apart : (head other : List ℕ) → has_slash head ≡ false → is_folder_name other ≡ true → head ≢ built_in other → head ≢ other → MovesApart head (built_in other) other
+flat_apart : (head other : List ℕ) → has_slash head ≡ false → is_folder_name other ≡ true → head ≢ built_in other
+    → head ≢ other → MovesApart head (built_in other) other
 flat_apart head other one fits apart differs =
     let two : has_slash other ≡ false = flat other (folder_is_component other fits) in
     let built : has_slash (built_in other) ≡ false = built_flat other fits in
@@ -80,12 +82,16 @@ flat_apart head other one fits apart differs =
     }
 
 -- a finished checkpoint's folder moves apart from the store's own, and from what another checkpoint builds
-pub moves_apart : (dir other : List ℕ) → is_folder_name dir ≡ true → is_folder_name other ≡ true → dir ≢ other → MovesApart dir (built_in other) other
-moves_apart dir other own fits differs = flat_apart dir other (flat dir (folder_is_component dir own)) fits (λ same. not_built dir other own (sym same)) differs
+pub moves_apart : (dir other : List ℕ) → is_folder_name dir ≡ true → is_folder_name other ≡ true → dir ≢ other
+    → MovesApart dir (built_in other) other
+moves_apart dir other own fits differs = flat_apart dir other (flat dir (folder_is_component dir own)) fits
+    (λ same. not_built dir other own (sym same)) differs
 
-pub moves_beside : (job other : List ℕ) → is_folder_name job ≡ true → is_folder_name other ≡ true → job ≢ other → MovesApart (built_in job) (built_in other) other
+pub moves_beside : (job other : List ℕ) → is_folder_name job ≡ true → is_folder_name other ≡ true → job ≢ other
+    → MovesApart (built_in job) (built_in other) other
 moves_beside job other one fits differs =
-    flat_apart (built_in job) other (built_flat job one) fits (λ same. differs (append_cancel_right job other (codes ".tmp") same)) (not_built other job fits)
+    flat_apart (built_in job) other (built_flat job one) fits
+    (λ same. differs (append_cancel_right job other (codes ".tmp") same)) (not_built other job fits)
 
 -- ---- what stays
 
@@ -118,7 +124,8 @@ module _ (dir from to : List ℕ) (apart : MovesApart dir from to) (d : State) w
   spared name = apart.inside (spelled name)
 
   same_now : (name : FileName) → finmap.get (names_now then) (path_in dir name) ≡ finmap.get (names_now d) (path_in dir name)
-  same_now name = ap (λ (names : Names). finmap.get names (path_in dir name)) then_now ∙ get_spared (path_in dir name) (Moved from to) (names_now d) (spared name)
+  same_now name = ap (λ (names : Names). finmap.get names (path_in dir name)) then_now ∙ get_spared (path_in dir name)
+      (Moved from to) (names_now d) (spared name)
 
   same_file : (name : FileName) → file_at then (path_in dir name) ≡ file_at d (path_in dir name)
   same_file name = ap id_of (same_now name)
@@ -126,7 +133,8 @@ module _ (dir from to : List ℕ) (apart : MovesApart dir from to) (d : State) w
   pub move_spares : (kept : Kept) (last : ℕ) → SparesNeeded d dir kept last (Named (Moved from to))
   move_spares kept last = record { folder = apart.folder; files = λ name id fits needed other at. spared name }
 
-  wal_moved : (number : ℕ) (batches : List Logged) (durable : ℕ) → IsWal d (path_in dir (Log number)) batches durable → IsWal then (path_in dir (Log number)) batches durable
+  wal_moved : (number : ℕ) (batches : List Logged) (durable : ℕ) → IsWal d (path_in dir (Log number)) batches durable
+      → IsWal then (path_in dir (Log number)) batches durable
   wal_moved number batches durable wal = record {
     id = wal.id;
     file = wal.file;
@@ -139,7 +147,11 @@ module _ (dir from to : List ℕ) (apart : MovesApart dir from to) (d : State) w
 
   synced_moved : (first : ℕ) (logs : List LogPart) → AreSynced d dir first logs → AreSynced then dir first logs
   synced_moved first [] synced = tt
-  synced_moved first (log ∷ logs) synced = (wal_moved log.number _ _ synced.0, synced_moved (sequence_after first log.batches) logs synced.1)
+  synced_moved first (log ∷ logs) synced = (
+    wal_moved log.number _ _ synced.0,
+    synced_moved
+        (sequence_after first log.batches) logs synced.1,
+  )
 
   pub logs_moved : (kept : Kept) (parts : Parts) → HasLogs d dir kept parts → HasLogs then dir kept parts
   logs_moved kept parts has = record {
@@ -154,7 +166,10 @@ module _ (dir from to : List ℕ) (apart : MovesApart dir from to) (d : State) w
   }
 
   pub quiet_moved : (kept : Kept) → IsQuiet d dir kept → IsQuiet then dir kept
-  quiet_moved kept is = record { spares = λ name file held. All-push (OpSpares (path_in dir name)) d.pending (Moved from to) (is.spares name file held) (spared name) }
+  quiet_moved kept is = record {
+    spares = λ name file held. All-push (OpSpares (path_in dir name)) d.pending (Moved from to)
+        (is.spares name file held) (spared name);
+  }
 
   pub known_moved : (kept : Kept) → AreKnown d dir kept → AreKnown then dir kept
   known_moved kept are = record {
@@ -167,7 +182,8 @@ module _ (dir from to : List ℕ) (apart : MovesApart dir from to) (d : State) w
     no_folder = λ name k is stands. ⊎_elim
         (λ short. are.no_folder name k is (ap (λ (names : Names). finmap.get names (path_in dir name)) (sym short) ∙ stands))
         (λ long. are.no_folder name (length d.pending) is (at_cut d (path_in dir name) (Some Folder_node)
-        (sym (get_spared (path_in dir name) (Moved from to) (names_now d) (spared name)) ∙ ap (λ (names : Names). finmap.get names (path_in dir name)) (sym long) ∙ stands)))
+        (sym (get_spared (path_in dir name) (Moved from to) (names_now d) (spared name)) ∙ ap
+        (λ (names : Names). finmap.get names (path_in dir name)) (sym long) ∙ stands)))
         (then_cuts k);
   }
 
@@ -180,7 +196,8 @@ module _ (dir from to : List ℕ) (apart : MovesApart dir from to) (d : State) w
       path_same : finmap.get (names_now then) path ≡ finmap.get (names_now d) path
       path_same = ap (λ (names : Names). finmap.get names path) then_now ∙ get_spared path (Moved from to) (names_now d) spares
 
-      only : (id k : ℕ) (other : List ℕ) → file_at d path ≡ Some id → finmap.get (cut_names then k) other ≡ Some (File_node id) → other ≡ path
+      only : (id k : ℕ) (other : List ℕ) → file_at d path ≡ Some id → finmap.get (cut_names then k) other ≡ Some (File_node id)
+          → other ≡ path
       only id k other at leads = ⊎_elim
           (λ short. is.only id k other at (ap (λ (names : Names). finmap.get names other) (sym short) ∙ leads))
           (λ long. by_came id at other (from_move from (names_now d) other id from to (finmap.get (names_now d) from) (in_itself from) refl
@@ -189,10 +206,12 @@ module _ (dir from to : List ℕ) (apart : MovesApart dir from to) (d : State) w
         where
           by_came : (id : ℕ) → file_at d path ≡ Some id → (other : List ℕ) → CameFrom from (names_now d) other id → other ≡ path
           by_came id at other came =
-              let same : came.from ≡ path = is.only id (length d.pending) came.from at (at_cut d came.from (Some (File_node id)) came.leads) in
+              let same : came.from ≡ path = is.only id (length d.pending) came.from at
+              (at_cut d came.from (Some (File_node id)) came.leads) in
               ⊎_elim
               (λ one. sym one ∙ same)
-              (λ inside. let clash : true ≡ false = sym inside ∙ ap (is_in from) same ∙ not_in from path apart.named spares.2 in absurd (cc))
+              (λ inside. let clash : true ≡ false = sym inside ∙ ap
+              (is_in from) same ∙ not_in from path apart.named spares.2 in absurd (cc))
               came.is
 
   abbrev IsSpared : List ℕ → Type 0
@@ -216,7 +235,8 @@ module _ (dir from to : List ℕ) (apart : MovesApart dir from to) (d : State) w
   written_moved kept log are = record {
     tables = All-weaker (λ (table : Unfinished). bytes_at (tree_now d) (path_in dir (Table table.number)) ≡ Some table.bytes)
         (λ (table : Unfinished). bytes_at (tree_now then) (path_in dir (Table table.number)) ≡ Some table.bytes)
-        (λ table has. named_bytes d (path_in dir (Table table.number)) table.bytes (Moved from to) (spared (Table table.number)) ∙ has) kept.unfinished are.tables;
+        (λ table has. named_bytes d (path_in dir (Table table.number)) table.bytes (Moved from to)
+        (spared (Table table.number)) ∙ has) kept.unfinished are.tables;
     alone = all_alone (appended_to dir (without_restore kept) log) (all_spared kept log) are.alone;
   }
 
@@ -239,10 +259,12 @@ module _ (from to path : List ℕ) (differs : path ≢ to) (off : under to path 
   abbrev StaysOrGoes : Option Node → Type 0
   StaysOrGoes node = (node ≡ finmap.get names path) ⊎ (node ≡ None)
 
-  by_node : (node : Option Node) (rest : Option (List ℕ)) → under from path ≡ rest → StaysOrGoes (finmap.get (renamed from to node names) path)
+  by_node : (node : Option Node) (rest : Option (List ℕ)) → under from path ≡ rest
+      → StaysOrGoes (finmap.get (renamed from to node names) path)
   by_node None rest is = inl refl
   by_node (Some (File_node id)) rest is = ⊎_elim
-      (λ same. inr (get_put_other (finmap.remove names from) path to (File_node id) differs ∙ ap (finmap.get (finmap.remove names from)) same ∙ get_gone names from))
+      (λ same. inr (get_put_other (finmap.remove names from) path to (File_node id) differs ∙ ap
+      (finmap.get (finmap.remove names from)) same ∙ get_gone names from))
       (λ other. inl (get_put_other (finmap.remove names from) path to (File_node id) differs ∙ get_gone_other names path from other))
       (path_cases path from)
   by_node (Some Folder_node) (Some rest) is = inr (get_left from to path rest is off names)
@@ -255,10 +277,12 @@ module _ (from to path : List ℕ) (differs : path ≢ to) (off : under to path 
   stays_or_goes = by_node (finmap.get names from) (under from path) refl
 
 module _ (from to path : List ℕ) (differs : path ≢ to) (off : under to path ≡ None) (d : State) (node : Node) where
-  cut_stays : ((k : ℕ) → finmap.get (cut_names d k) path ≢ Some node) → (k : ℕ) → finmap.get (cut_names (after d (Named (Moved from to))) k) path ≢ Some node
+  cut_stays : ((k : ℕ) → finmap.get (cut_names d k) path ≢ Some node) → (k : ℕ)
+      → finmap.get (cut_names (after d (Named (Moved from to))) k) path ≢ Some node
   cut_stays never k is = ⊎_elim
       (λ short. never k (ap (λ (ops : List NameOp). finmap.get (all_named ops d.durable) path) (sym short) ∙ is))
-      (λ long. moved (ap (λ (names : Names). finmap.get names path) (sym (ap (λ (ops : List NameOp). all_named ops d.durable) long ∙ all_push d.pending (Moved from to) d.durable)) ∙ is))
+      (λ long. moved (ap (λ (names : Names). finmap.get names path)
+      (sym (ap (λ (ops : List NameOp). all_named ops d.durable) long ∙ all_push d.pending (Moved from to) d.durable)) ∙ is))
       (take_push k d.pending (Moved from to))
     where
       moved : finmap.get (named (Moved from to) (names_now d)) path ≡ Some node → ⊥
@@ -267,11 +291,14 @@ module _ (from to path : List ℕ) (differs : path ≢ to) (off : under to path 
           (λ gone. let clash : None ≡ Some node = sym gone ∙ there in absurd (cc))
           (stays_or_goes from to path differs off (names_now d))
 
-pub clear_moved : (from to : List ℕ) → is_folder_name to ≡ true → (d : State) → AreClearable d → AreClearable (after d (Named (Moved from to)))
+pub clear_moved : (from to : List ℕ) → is_folder_name to ≡ true → (d : State) → AreClearable d
+    → AreClearable (after d (Named (Moved from to)))
 clear_moved from to named d are = record {
-  no_file = λ job k id is. cut_stays from to (built_in job) (not_built to job named) (head_off (built_in job) to (built_flat job is) two (not_built to job named))
+  no_file = λ job k id is. cut_stays from to (built_in job) (not_built to job named)
+      (head_off (built_in job) to (built_flat job is) two (not_built to job named))
       d (File_node id) (λ n. are.no_file job n id is) k;
-  no_folder = λ job rest k is. cut_stays from to (built_in job ++ 47 ∷ rest) (deep_differs (built_in job) to (built_flat job is) two (not_built to job named) rest)
+  no_folder = λ job rest k is. cut_stays from to (built_in job ++ 47 ∷ rest)
+      (deep_differs (built_in job) to (built_flat job is) two (not_built to job named) rest)
       (deep_off (built_in job) to (built_flat job is) two (not_built to job named) rest)
       d Folder_node (λ n. are.no_folder job rest n is) k;
 }
@@ -309,10 +336,12 @@ module _ (own from to : List ℕ) (apart : MovesApart own from to) (d : State) w
     job_moved all is = record {
       left = is.left;
       unmade = is.unmade;
-      folder = ap (λ (names : Names). finmap.get names built) (then_now own from to apart d) ∙ get_spared built (Moved from to) (names_now d) beside.folder ∙ is.folder;
+      folder = ap (λ (names : Names). finmap.get names built) (then_now own from to apart d) ∙ get_spared built (Moved from to)
+          (names_now d) beside.folder ∙ is.folder;
       whole = All-weaker (HasCopy d own built) (HasCopy next own built) copy_moved (done_files job all) is.whole;
       hand = All-weaker (HasFront d built job.copied) (HasFront next built job.copied) front_moved (begun_files job all) is.hand;
-      absent = All-weaker (IsAbsent d built) (IsAbsent next built) (λ file free. same_now built from to beside d file.name ∙ free) (absent_files job all) is.absent;
+      absent = All-weaker (IsAbsent d built) (IsAbsent next built)
+          (λ file free. same_now built from to beside d file.name ∙ free) (absent_files job all) is.absent;
       only = λ file is_file there. is.only file is_file (ap is_some (sym (same_now built from to beside d file)) ∙ there);
     }
 
@@ -323,7 +352,8 @@ module _ (own from to : List ℕ) (apart : MovesApart own from to) (d : State) w
   abbrev IsBeside : KeptPin → Type 0
   IsBeside kept = JobApart from to kept.job
 
-  each_moved : (kept : List KeptPin) (pins : List Pin) → All IsBeside kept → ArePins (λ (k : KeptPin) (pin : Pin). BuildsJob d own k.job pin) kept pins
+  each_moved : (kept : List KeptPin) (pins : List Pin) → All IsBeside kept
+      → ArePins (λ (k : KeptPin) (pin : Pin). BuildsJob d own k.job pin) kept pins
       → ArePins (λ (k : KeptPin) (pin : Pin). BuildsJob next own k.job pin) kept pins
   each_moved [] [] beside are = tt
   each_moved [] (pin ∷ pins) beside are = are

@@ -29,10 +29,13 @@ use Rattle.lsm_refine.specs.Pins.{AreClearable}
 use Rattle.lsm_refine.specs.Sane.{IsWholeFile, IsAlone, IsCurrent, HasEdits, HasTables, AreSynced, IsNeeded, IsQuiet, AreKnown, AreFiles, SparesNeeded, IsOlder, KeepsNames}
 
 module _ (d : State) (dir : List ℕ) (kept : Kept) (last : ℕ) (c : Change) (spares : SparesNeeded d dir kept last c) where
-  kept_still : (name : FileName) (id : ℕ) (file : FileState) → IsFileName name → IsNeeded kept name → name ≢ Log last → IsKeptFile d (path_in dir name) id file → IsKeptFile (after d c) (path_in dir name) id file
-  kept_still name id file fits needed other is = kept_spared d (path_in dir name) id file is c (spares.files name id fits needed other (kept_at d (path_in dir name) id file is))
+  kept_still : (name : FileName) (id : ℕ) (file : FileState) → IsFileName name → IsNeeded kept name → name ≢ Log last
+      → IsKeptFile d (path_in dir name) id file → IsKeptFile (after d c) (path_in dir name) id file
+  kept_still name id file fits needed other is = kept_spared d (path_in dir name) id file is c
+      (spares.files name id fits needed other (kept_at d (path_in dir name) id file is))
 
-  whole_still : (name : FileName) (bytes : List ℕ) → IsFileName name → IsNeeded kept name → name ≢ Log last → IsWholeFile d (path_in dir name) bytes → IsWholeFile (after d c) (path_in dir name) bytes
+  whole_still : (name : FileName) (bytes : List ℕ) → IsFileName name → IsNeeded kept name → name ≢ Log last
+      → IsWholeFile d (path_in dir name) bytes → IsWholeFile (after d c) (path_in dir name) bytes
   whole_still name bytes fits needed other is = record { id = is.id; file = kept_still name is.id (sealed bytes) fits needed other is.file }
 
   pub current_stays : IsCurrent d dir kept → IsCurrent (after d c) dir kept
@@ -69,7 +72,8 @@ module _ (d : State) (dir : List ℕ) (kept : Kept) (last : ℕ) (c : Change) (s
   number_is : (m n : ℕ) → Log m ≡ Log n → m ≡ n
   number_is m n same = cc
 
-  wal_still : (number : ℕ) (batches : List Logged) (durable : ℕ) → IsFileName (Log number) → kept.log ≤ number → number ≢ last → IsWal d (path_in dir (Log number)) batches durable → IsWal (after d c) (path_in dir (Log number)) batches durable
+  wal_still : (number : ℕ) (batches : List Logged) (durable : ℕ) → IsFileName (Log number) → kept.log ≤ number → number ≢ last
+      → IsWal d (path_in dir (Log number)) batches durable → IsWal (after d c) (path_in dir (Log number)) batches durable
   wal_still number batches durable fits least other wal = record {
     id = wal.id;
     file = wal.file;
@@ -80,11 +84,15 @@ module _ (d : State) (dir : List ℕ) (kept : Kept) (last : ℕ) (c : Change) (s
     each = wal.each;
   }
 
-  pub logs_stay : (first : ℕ) (logs : List LogPart) → All (IsOlder kept last) logs → AreSynced d dir first logs → AreSynced (after d c) dir first logs
+  pub logs_stay : (first : ℕ) (logs : List LogPart) → All (IsOlder kept last) logs → AreSynced d dir first logs
+      → AreSynced (after d c) dir first logs
   logs_stay first [] each synced = tt
   logs_stay first (log ∷ logs) each synced =
-      let is = All-head (IsOlder kept last) log logs each in
-      (wal_still log.number _ _ is.0 is.1 is.2 synced.0, logs_stay (sequence_after first log.batches) logs (All-tail (IsOlder kept last) log logs each) synced.1)
+      let is = All-head (IsOlder kept last) log logs each in (
+        wal_still log.number _ _ is.0 is.1 is.2 synced.0,
+        logs_stay (sequence_after first log.batches) logs
+            (All-tail (IsOlder kept last) log logs each) synced.1,
+      )
 
 -- ---- an append to the last log, and its sync
 
@@ -93,13 +101,18 @@ node_is None id is = cc
 node_is (Some Folder_node) id is = cc
 node_is (Some (File_node k)) id is = cc
 
-module _ (d : State) (dir : List ℕ) (kept : Kept) (last id : ℕ) (fits : IsFileName (Log last)) (there : file_at d (path_in dir (Log last)) ≡ Some id) (alone : IsAlone d (path_in dir (Log last))) where
+module _ (d : State) (dir : List ℕ) (kept : Kept) (last id : ℕ) (fits : IsFileName (Log last))
+    (there : file_at d (path_in dir (Log last)) ≡ Some id) (alone : IsAlone d (path_in dir (Log last))) where
   -- another name leads to another file
   differs : (name : FileName) (k : ℕ) → IsFileName name → name ≢ Log last → file_at d (path_in dir name) ≡ Some k → k ≢ id
   differs name k named other at same =
-      let leads : finmap.get (names_now d) (path_in dir name) ≡ Some (File_node id) = node_is (finmap.get (names_now d) (path_in dir name)) id (at ∙ ap Some same) in
-      let path : path_in dir name ≡ path_in dir (Log last) = alone.only id (reads_image d).kept (path_in dir name) there (ap (λ (names : Names). finmap.get names (path_in dir name)) (sym (reads_image d).names) ∙ leads) in
-      let text : spelled name ≡ spelled (Log last) = ap (λ (l : List ℕ). drop 1 l) (append_cancel_left dir (47 ∷ spelled name) (47 ∷ spelled (Log last)) path) in
+      let leads : finmap.get (names_now d) (path_in dir name) ≡ Some (File_node id) =
+      node_is (finmap.get (names_now d) (path_in dir name)) id (at ∙ ap Some same) in
+      let path : path_in dir name ≡ path_in dir (Log last) =
+      alone.only id (reads_image d).kept (path_in dir name) there
+      (ap (λ (names : Names). finmap.get names (path_in dir name)) (sym (reads_image d).names) ∙ leads) in
+      let text : spelled name ≡ spelled (Log last) = ap (λ (l : List ℕ). drop 1 l)
+      (append_cancel_left dir (47 ∷ spelled name) (47 ∷ spelled (Log last)) path) in
       other (spelled_injective name (Log last) named fits text)
 
   pub append_spares : (more : List ℕ) → SparesNeeded d dir kept last (Appended id more)
@@ -130,7 +143,8 @@ known_stay d dir kept Names_synced keeps are = record { there = are.there; all =
 known_stay d dir kept Idle keeps are = are
 
 -- the name of each path after a sync of names is one of before
-names_are : (d : State) (other : List ℕ) (k : ℕ) → finmap.get (all_named (take (reads_image d).kept d.pending) d.durable) other ≡ finmap.get (all_named (take k []) (names_now d)) other
+names_are : (d : State) (other : List ℕ) (k : ℕ) → finmap.get (all_named (take (reads_image d).kept d.pending) d.durable) other
+    ≡ finmap.get (all_named (take k []) (names_now d)) other
 names_are d other k =
     ap (λ (names : Names). finmap.get names other) (sym (reads_image d).names)
     ∙ ap (λ (ops : List NameOp). finmap.get (all_named ops (names_now d)) other) (sym (take_none k))
@@ -161,5 +175,8 @@ alone_stays d path (Created other) keeps is = absurd keeps
 alone_stays d path (Named op) keeps is = absurd keeps
 alone_stays d path (Appended id more) keeps is = record { only = is.only }
 alone_stays d path (Synced id) keeps is = record { only = is.only }
-alone_stays d path Names_synced keeps is = record { only = λ id k other at leads. is.only id (reads_image d).kept other at (names_are d other k ∙ leads) }
+alone_stays d path Names_synced keeps is = record {
+  only = λ id k other at leads. is.only id (reads_image d).kept other at
+      (names_are d other k ∙ leads);
+}
 alone_stays d path Idle keeps is = is

@@ -33,7 +33,8 @@ part name bytes = record { name = name; bytes = bytes }
 pub new_apart : AreApart (new_files 1)
 new_apart = (
   All-cons (λ (name : FileName). spelled Current ≢ spelled name) (Manifest 1) (Log 2 ∷ []) (λ same. current_differs 1 refl (sym same))
-      (All-cons (λ (name : FileName). spelled Current ≢ spelled name) (Log 2) [] (λ same. log_differs 2 refl (sym same)) (All-nil (λ (name : FileName). spelled Current ≢ spelled name))),
+      (All-cons (λ (name : FileName). spelled Current ≢ spelled name) (Log 2) [] (λ same. log_differs 2 refl (sym same))
+      (All-nil (λ (name : FileName). spelled Current ≢ spelled name))),
   (
     All-cons (λ (name : FileName). spelled (Manifest 1) ≢ spelled name) (Log 2) [] (λ same. log_and_manifest 2 1 refl refl (sym same))
         (All-nil (λ (name : FileName). spelled (Manifest 1) ≢ spelled name)),
@@ -65,6 +66,7 @@ module _ (dir : List ℕ) (fits : is_folder_name dir ≡ true) where
     alone =
         All-cons (IsAlone (new_disk dir)) (path_in dir (Manifest 1)) (path_in dir (Log 2) ∷ [])
         (part_alone dir fits (new_files 1) new_apart 1 (part (Manifest 1) (first_manifest 1)) refl)
-        (All-cons (IsAlone (new_disk dir)) (path_in dir (Log 2)) [] (part_alone dir fits (new_files 1) new_apart 2 (part (Log 2) []) refl) (All-nil (IsAlone (new_disk dir))));
+        (All-cons (IsAlone (new_disk dir)) (path_in dir (Log 2)) []
+        (part_alone dir fits (new_files 1) new_apart 2 (part (Log 2) []) refl) (All-nil (IsAlone (new_disk dir))));
     clear = clear dir fits (new_files 1) new_apart;
   }

@@ -59,7 +59,10 @@ module _ (m : ℕ) (least : 1 ≤ m) (most : m + 2 < 2 ^ 56) where
   first_is = record {
     fields = (
       record { range = record { some = omega (arith, least); most = omega (arith, most) }; behind = inl (omega arith) },
-      (record { range = (omega (arith, least), omega (arith, most)); behind = inl (omega arith) }, (record { range = omega arith; behind = inl (omega arith) }, tt)),
+      (
+        record { range = (omega (arith, least), omega (arith, most)); behind = inl (omega arith) },
+        (record { range = omega arith; behind = inl (omega arith) }, tt),
+      ),
     );
   }
 
@@ -142,14 +145,18 @@ spelled_apart name n fits also other same =
     cc
 
 -- a name is among some, or spelled otherwise than each
-pub among_or_not : (names : List FileName) (name : FileName) → All IsFileName names → IsFileName name → Contains names name ⊎ All (λ (n : FileName). spelled name ≢ spelled n) names
+pub among_or_not : (names : List FileName) (name : FileName) → All IsFileName names → IsFileName name
+    → Contains names name ⊎ All (λ (n : FileName). spelled name ≢ spelled n) names
 among_or_not [] name each fits = inr (All-nil (λ (n : FileName). spelled name ≢ spelled n))
 among_or_not (n ∷ names) name each fits =
-    elim (eq_by_cmp name_cmp name n) as (λ b. eq_by_cmp name_cmp name n ≡ b → Contains (n ∷ names) name ⊎ All (λ (m : FileName). spelled name ≢ spelled m) (n ∷ names)) [
-      | true ↦ λ same. inl (subst (λ (m : FileName). Contains (n ∷ names) m) (sym (same_name name n same)) (All-head (Contains (n ∷ names)) n names (All-contains_itself (n ∷ names))))
+    elim (eq_by_cmp name_cmp name n) as (λ b. eq_by_cmp name_cmp name n ≡ b
+    → Contains (n ∷ names) name ⊎ All (λ (m : FileName). spelled name ≢ spelled m) (n ∷ names)) [
+      | true ↦ λ same. inl (subst (λ (m : FileName). Contains (n ∷ names) m) (sym (same_name name n same))
+          (All-head (Contains (n ∷ names)) n names (All-contains_itself (n ∷ names))))
       | false ↦ λ other. ⊎_elim
           (λ among. inl (Contains-append_right (n ∷ []) names name among))
-          (λ none. inr (All-cons (λ (m : FileName). spelled name ≢ spelled m) n names (spelled_apart name n fits (All-head IsFileName n names each) other) none))
+          (λ none. inr (All-cons (λ (m : FileName). spelled name ≢ spelled m) n names
+          (spelled_apart name n fits (All-head IsFileName n names each) other) none))
           (among_or_not names name (All-tail IsFileName n names each) fits)
     ] refl
 
@@ -214,11 +221,17 @@ module _ (d : disk.State) (dir : List ℕ) (m : ℕ) (beside : List FileName) (h
   log_kept = has.each 2 (record { name = Current; bytes = [] }) (omega arith)
 
   -- no other file is there
-  none_there : (name : FileName) → IsFileName name → All (λ (n : FileName). spelled name ≢ spelled n) names → file_at d (path_in dir name) ≡ None
+  none_there : (name : FileName) → IsFileName name → All (λ (n : FileName). spelled name ≢ spelled n) names
+      → file_at d (path_in dir name) ≡ None
   none_there name fits others = ap id_of (name_now d (path_in dir name) None (has.only name fits others))
 
   is_current : IsCurrent d dir (new_kept m beside)
-  is_current = record { named = has.named; folder = has.stands; numbered = manifest_named; file = record { id = current_kept.id; file = current_kept.file } }
+  is_current = record {
+    named = has.named;
+    folder = has.stands;
+    numbered = manifest_named;
+    file = record { id = current_kept.id; file = current_kept.file };
+  }
 
   has_edits : HasEdits d dir (new_kept m beside) (first_edit m ∷ [])
   has_edits = record {
@@ -265,7 +278,10 @@ module _ (d : disk.State) (dir : List ℕ) (m : ℕ) (beside : List FileName) (h
   }
 
   is_quiet : IsQuiet d dir (new_kept m beside)
-  is_quiet = record { spares = λ name fits held. subst (All (OpSpares (path_in dir name))) (sym has.settled) (All-nil (OpSpares (path_in dir name))) }
+  is_quiet = record {
+    spares = λ name fits held. subst (All (OpSpares (path_in dir name))) (sym has.settled)
+        (All-nil (OpSpares (path_in dir name)));
+  }
 
   abbrev HasFile : FileName → Type 0
   HasFile name = is_some (file_at d (path_in dir name)) ≡ true
@@ -278,13 +294,15 @@ module _ (d : disk.State) (dir : List ℕ) (m : ℕ) (beside : List FileName) (h
 
   files_there : All HasFile names
   files_there =
-      each_name HasFile (a_part Current (current_text m) current_kept) (a_part (Manifest m) (first_manifest m) manifest_kept) (a_part (Log (m + 1)) [] log_kept)
+      each_name HasFile (a_part Current (current_text m) current_kept) (a_part (Manifest m) (first_manifest m) manifest_kept)
+      (a_part (Log (m + 1)) [] log_kept)
       (All-weaker (IsThere d dir) HasFile one_beside beside has.there)
 
   is_known : (name : FileName) → IsFileName name → is_some (finmap.get (names_now d) (path_in dir name)) ≡ true → Contains names name
   is_known name fits there = ⊎_elim
       (λ among. among)
-      (λ others. let clash : false ≡ true = ap is_some (sym (name_now d (path_in dir name) None (has.only name fits others))) ∙ there in absurd (cc))
+      (λ others. let clash : false ≡ true = ap is_some (sym (name_now d (path_in dir name) None
+      (has.only name fits others))) ∙ there in absurd (cc))
       (among_or_not names name new_named fits)
 
   -- under this name no folder stands, now and after each crash
@@ -302,7 +320,8 @@ module _ (d : disk.State) (dir : List ℕ) (m : ℕ) (beside : List FileName) (h
 
   no_folders : All HasNoFolder names
   no_folders =
-      each_name HasNoFolder (a_file Current (current_text m) current_kept) (a_file (Manifest m) (first_manifest m) manifest_kept) (a_file (Log (m + 1)) [] log_kept)
+      each_name HasNoFolder (a_file Current (current_text m) current_kept)
+      (a_file (Manifest m) (first_manifest m) manifest_kept) (a_file (Log (m + 1)) [] log_kept)
       (All-weaker (IsThere d dir) HasNoFolder a_leftover beside has.there)
 
   are_files : AreFiles d dir
@@ -317,7 +336,11 @@ module _ (d : disk.State) (dir : List ℕ) (m : ℕ) (beside : List FileName) (h
   are_known = record { there = λ name among. (All-contains IsFileName names name new_named among, All-contains HasFile names name files_there among); all = is_known }
 
   are_written : AreWritten d dir (new_kept m beside) (m + 1)
-  are_written = record { tables = All-nil (λ (table : Unfinished). bytes_at (tree_now d) (path_in dir (Table table.number)) ≡ Some table.bytes); alone = has.alone }
+  are_written = record {
+    tables = All-nil (λ (table : Unfinished). bytes_at (tree_now d) (path_in dir (Table table.number))
+        ≡ Some table.bytes);
+    alone = has.alone;
+  }
 
   sane : Sane d dir (new_kept m beside) (new_parts m)
   sane = record {
@@ -365,22 +388,36 @@ module _ (seen : Seen) (dir : List ℕ) (m : ℕ) (beside : List FileName) (fold
   unfolding IsDistinct
   no_jobs d = record { apart = tt; each = tt }
 
-  pub new_good : (story : Story) → seen.told ≡ Some story → HasNewStore (state_of story) dir m beside → FoldersRead (state_of story) (new_state seen dir m folders)
+  pub new_good : (story : Story) → seen.told ≡ Some story → HasNewStore (state_of story) dir m beside
+      → FoldersRead (state_of story) (new_state seen dir m folders)
       → Good (new_store seen dir m beside) (new_state seen dir m folders)
   new_good story told has read = record {
     story = story;
     told = told;
-    mode = record { parts = new_parts m; sane = sane (state_of story) dir m beside has; tied = tied; works = works; jobs = no_jobs (state_of story); certain = refl };
+    mode = record {
+      parts = new_parts m;
+      sane = sane (state_of story) dir m beside has;
+      tied = tied;
+      works = works;
+      jobs = no_jobs (state_of story);
+      certain = refl;
+    };
     pinned = record { pins = tt; files = All-nil (λ (pin : Pin). PinFiles (state_of story) dir pin.files) };
     folders = read;
     clear = has.clear;
-    counted = record { durable = omega arith; numbers = All-nil (λ (pin : Pin). pin.number ≤ 0); fronts = All-nil (λ (pin : Pin). pin.batches ≤ 0); begun = tt };
+    counted = record {
+      durable = omega arith;
+      numbers = All-nil (λ (pin : Pin). pin.number ≤ 0);
+      fronts = All-nil (λ (pin : Pin). pin.batches ≤ 0);
+      begun = tt;
+    };
     kept = record { own = refl; sequence = refl; greatest_pin = refl; disables = refl; begun = refl; halt = refl };
     counts = record { faults = refl; refusals = refl };
   }
 
 -- the other folders of its disk can be listed
-pub new_listed : (seen : Seen) (dir : List ℕ) (m : ℕ) (beside : List FileName) (story : Story) → seen.told ≡ Some story → HasNewStore (state_of story) dir m beside
+pub new_listed : (seen : Seen) (dir : List ℕ) (m : ℕ) (beside : List FileName) (story : Story) → seen.told ≡ Some story
+    → HasNewStore (state_of story) dir m beside
     → (folders : List FolderRead) × Good (new_store seen dir m beside) (new_state seen dir m folders)
 new_listed seen dir m beside story told has =
     let read = list_folders (state_of story) (new_state seen dir m []) refl in

@@ -59,21 +59,26 @@ new_image : (x : disk.State) (path : List ℕ) (t : Tree) → HasNew x path t �
 new_image x path t has = ⊎_elim
     (λ old. record {
       kept = length (take has.was.kept x.pending);
-      names = old ∙ has.was.names ∙ ap (λ (ops : List NameOp). all_named ops x.durable) (sym (front_of has.was.kept x.pending (Put path (File_node (length x.files)) ∷ [])));
+      names = old ∙ has.was.names ∙ ap (λ (ops : List NameOp). all_named ops x.durable)
+          (sym (front_of has.was.kept x.pending (Put path (File_node (length x.files)) ∷ [])));
       files = cut;
     })
     (λ made. record {
       kept = (reads_image (after x (Created path))).kept;
-      names = made.1 ∙ sym (all_push x.pending (Put path (File_node (length x.files))) x.durable) ∙ (reads_image (after x (Created path))).names;
+      names = made.1 ∙ sym (all_push x.pending (Put path (File_node (length x.files))) x.durable) ∙
+          (reads_image (after x (Created path))).names;
       files = cut;
     })
     has.names
   where
     cut : AreCut (x.files ++ new_file ∷ []) t.contents
-    cut = subst (λ (bs : List (List ℕ)). AreCut (x.files ++ new_file ∷ []) bs) (sym has.contents) (cuts_push x.files has.before.contents has.was.files)
+    cut = subst (λ (bs : List (List ℕ)). AreCut (x.files ++ new_file ∷ []) bs) (sym has.contents)
+        (cuts_push x.files has.before.contents has.was.files)
 
-module _ (v : Shown) (s : State) (good : Good v s) (run : IsRunning (state_of good.story) v s) (x : disk.State) (writes : WritesAt v.dir (Log run.parts.last.number) (state_of good.story) x)
-    (wal : HasLast x v.dir run.parts (length run.parts.last.batches)) (lawful : IsLawful x) (fits : IsFileName (Log v.kept.next)) (drawn : All (IsDrawn v.kept.next) v.kept.known) (no_frozen : v.kept.frozen ≡ []) where
+module _ (v : Shown) (s : State) (good : Good v s) (run : IsRunning (state_of good.story) v s) (x : disk.State)
+    (writes : WritesAt v.dir (Log run.parts.last.number) (state_of good.story) x)
+    (wal : HasLast x v.dir run.parts (length run.parts.last.batches)) (lawful : IsLawful x)
+    (fits : IsFileName (Log v.kept.next)) (drawn : All (IsDrawn v.kept.next) v.kept.known) (no_frozen : v.kept.frozen ≡ []) where
   abbrev path : List ℕ
   path = new v s good run x writes wal lawful fits drawn
 
@@ -98,18 +103,30 @@ module _ (v : Shown) (s : State) (good : Good v s) (run : IsRunning (state_of go
   at_end : (t : Tree) → IsImage made t → StandsFrom s (length s.accepted) t
   at_end t i =
       let is = running_image made (frozen_shown nowhere v) (frozen_state nowhere s) good.kept.own made_runs t i in
-      record { count = is.count; enough = is.enough; within = is.within; stands = record { folder = is.stands.folder; stands = is.stands.stands } }
+      record {
+        count = is.count;
+        enough = is.enough;
+        within = is.within;
+        stands = record { folder = is.stands.folder; stands = is.stands.stands };
+      }
 
   now_end : StandsFrom s (length s.accepted) (tree_now made)
   now_end =
       let is = running_now made (frozen_shown nowhere v) (frozen_state nowhere s) good.kept.own made_runs in
-      record { count = is.count; enough = is.enough; within = is.within; stands = record { folder = is.stands.folder; stands = is.stands.stands } }
+      record {
+        count = is.count;
+        enough = is.enough;
+        within = is.within;
+        stands = record { folder = is.stands.folder; stands = is.stands.stands };
+      }
 
   own_named : 1 ≤ length s.own
-  own_named = subst (λ (dir : List ℕ). 1 ≤ length dir) good.kept.own (folder_has_bytes v.dir (beside v s good run x writes).sane.current.named)
+  own_named = subst (λ (dir : List ℕ). 1 ≤ length dir) good.kept.own
+      (folder_has_bytes v.dir (beside v s good run x writes).sane.current.named)
 
   -- a file without a name shows nothing
-  without : (before t : Tree) → t.names ≡ before.names → t.contents ≡ before.contents ++ [] ∷ [] → StandsFrom s (length s.accepted) before → StandsFrom s (length s.accepted) t
+  without : (before t : Tree) → t.names ≡ before.names → t.contents ≡ before.contents ++ [] ∷ []
+      → StandsFrom s (length s.accepted) before → StandsFrom s (length s.accepted) t
   without before t names contents stands =
       let same : files_in s.own t ≡ files_in s.own before = files_same before t s.own own_named (λ file ok.
       ap (λ (m : Names). option_map (item_of t.contents) (finmap.get m (path_in s.own file))) names
@@ -121,16 +138,19 @@ module _ (v : Shown) (s : State) (good : Good v s) (run : IsRunning (state_of go
         within = stands.within;
         stands = record {
           folder = ap (λ (m : Names). finmap.get m s.own) names ∙ stands.stands.folder;
-          stands = subst (λ (files : Files). Stands files (replayed s.opening (take stands.count (written s))) (sequence_after s.began (take stands.count (written s)))) (sym same) stands.stands.stands;
+          stands = subst (λ (files : Files). Stands files (replayed s.opening (take stands.count (written s)))
+              (sequence_after s.began (take stands.count (written s)))) (sym same) stands.stands.stands;
         };
       }
 
   -- with its name it is there as it will be
-  with_name : (before t : Tree) → IsImage x before → t.names ≡ finmap.insert (names_now x) path (File_node (length x.files)) → t.contents ≡ before.contents ++ [] ∷ [] → IsImage made t
+  with_name : (before t : Tree) → IsImage x before → t.names ≡ finmap.insert (names_now x) path (File_node (length x.files))
+      → t.contents ≡ before.contents ++ [] ∷ [] → IsImage made t
   with_name before t was names contents = record {
     kept = 0;
     names = names ∙ sym (all_push x.pending (Put path (File_node (length x.files))) x.durable);
-    files = subst (λ (bs : List (List ℕ)). AreCut (x.files ++ new_file ∷ []) bs) (sym contents) (cuts_push x.files before.contents was.files);
+    files = subst (λ (bs : List (List ℕ)). AreCut (x.files ++ new_file ∷ []) bs) (sym contents)
+        (cuts_push x.files before.contents was.files);
   }
 
   in_between : (t : Tree) → HasNew x path t → StandsFrom s (length s.accepted) t
@@ -141,7 +161,8 @@ module _ (v : Shown) (s : State) (good : Good v s) (run : IsRunning (state_of go
 
   folders_created : FoldersRead with_file s
   folders_created = folders_stay (state_of good.story) with_file s
-      (subst (λ (own : List ℕ). ChangesInside own (state_of good.story) with_file) good.kept.own (created_inside v s good run x writes wal lawful fits drawn)) good.folders
+      (subst (λ (own : List ℕ). ChangesInside own (state_of good.story) with_file) good.kept.own
+      (created_inside v s good run x writes wal lawful fits drawn)) good.folders
 
   fewer : (t : Tree) → StandsFrom s (length s.accepted) t → StandsFrom s s.durable t
   fewer t is = stands_less s (length s.accepted) s.durable t (durable_few v s good run) is
@@ -156,11 +177,13 @@ module _ (v : Shown) (s : State) (good : Good v s) (run : IsRunning (state_of go
 
   -- each image of the log's making reads as a crash leaves the state before
   pub making_shows : (mid : Story) (told : Option Story) (J : disk.State → Type 0) → state_of mid ≡ x
-      → Went mid told (Making (new v s good run x writes wal lawful fits drawn)) (MayHaveNew (state_of mid) (new v s good run x writes wal lawful fits drawn)) J
+      → Went mid told (Making (new v s good run x writes wal lawful fits drawn))
+      (MayHaveNew (state_of mid) (new v s good run x writes wal lawful fits drawn)) J
       → Went mid told (λ c. Unit {0}) (λ y t. ReadsAsCrashed s t) J
   making_shows mid told J at went =
       went_wider (Making path) (λ c. Unit {0}) (MayHaveNew (state_of mid) path) (λ y t. ReadsAsCrashed s t) (λ c is. tt)
-      (λ y t may. ⊎_elim (λ i. before_reads t (subst (λ (z : disk.State). IsImage z t) at i)) (λ has. new_reads t (subst (λ (z : disk.State). HasNew z path t) at has)) may) went
+      (λ y t may. ⊎_elim (λ i. before_reads t (subst (λ (z : disk.State). IsImage z t) at i))
+      (λ has. new_reads t (subst (λ (z : disk.State). HasNew z path t) at has)) may) went
 
   -- ---- halted there
 
@@ -168,9 +191,13 @@ module _ (v : Shown) (s : State) (good : Good v s) (run : IsRunning (state_of go
     -- the file is made, and its name is not sure
     pub created_halts : (story : Story) → seen.told ≡ Some story → state_of story ≡ created v s good run x writes wal lawful fits drawn
         → Good (halted_shown seen at v) (halted_state seen at s.doubtful s)
-    created_halts story told is = halts_good v s good run seen at s.doubtful story told (subst (λ (y : disk.State). IsLeftHalted y v run.parts.rows s s.doubtful) (sym is)
+    created_halts story told is = halts_good v s good run seen at s.doubtful story told
+        (subst (λ (y : disk.State). IsLeftHalted y v run.parts.rows s s.doubtful) (sym is)
         (left_same with_file v run.parts.rows s created_tables now_end (λ t i. fewer t (in_between t (created_image x path t i)))
-        (All-weaker (λ (pin : Pin). PinFiles made v.dir pin.files) (λ (pin : Pin). PinFiles with_file v.dir pin.files) (λ pin are. All-weaker (IsPinned made v.dir) (IsPinned with_file v.dir) (λ file has. record { fits = has.fits; more = has.more; there = has.there }) pin.files are) s.pins (pinned_later v s good run x writes wal lawful fits drawn))
+        (All-weaker (λ (pin : Pin). PinFiles made v.dir pin.files) (λ (pin : Pin). PinFiles with_file v.dir pin.files)
+        (λ pin are. All-weaker (IsPinned made v.dir) (IsPinned with_file v.dir)
+        (λ file has. record { fits = has.fits; more = has.more; there = has.there }) pin.files are) s.pins
+        (pinned_later v s good run x writes wal lawful fits drawn))
         folders_created (clear_at v.dir (Log v.kept.next) all.sane.current.named fits x with_file file_at_new all.sane.files all.clear)))
       where
         all : Beside (state_of good.story) v.dir v.kept run.parts s (Log run.parts.last.number) x
@@ -183,10 +210,15 @@ module _ (v : Shown) (s : State) (good : Good v s) (run : IsRunning (state_of go
         created_tables = tables_at v.dir (Log v.kept.next) all.sane.current.named fits x with_file file_at_new v.kept run.parts.rows (λ number placed found same. cc) all.sane.tables
 
     -- its name is sure
-    pub later_halts : (story : Story) → seen.told ≡ Some story → state_of story ≡ later v s good run x writes wal lawful fits drawn → Good (halted_shown seen at v) (halted_state seen at s.doubtful s)
-    later_halts story told is = halts_good v s good run seen at s.doubtful story told (subst (λ (y : disk.State). IsLeftHalted y v run.parts.rows s s.doubtful) (sym is)
-        (left_same made v run.parts.rows s later_tables now_end (λ t i. fewer t (at_end t i)) (pinned_later v s good run x writes wal lawful fits drawn)
-        (folders_later v s good run x writes wal lawful fits drawn) (clear_at v.dir (Log v.kept.next) all.sane.current.named fits x made file_at_new all.sane.files all.clear)))
+    pub later_halts : (story : Story) → seen.told ≡ Some story
+        → state_of story ≡ later v s good run x writes wal lawful fits drawn
+        → Good (halted_shown seen at v) (halted_state seen at s.doubtful s)
+    later_halts story told is = halts_good v s good run seen at s.doubtful story told
+        (subst (λ (y : disk.State). IsLeftHalted y v run.parts.rows s s.doubtful) (sym is)
+        (left_same made v run.parts.rows s later_tables now_end (λ t i. fewer t (at_end t i))
+        (pinned_later v s good run x writes wal lawful fits drawn)
+        (folders_later v s good run x writes wal lawful fits drawn)
+        (clear_at v.dir (Log v.kept.next) all.sane.current.named fits x made file_at_new all.sane.files all.clear)))
       where
         all : Beside (state_of good.story) v.dir v.kept run.parts s (Log run.parts.last.number) x
         all = beside v s good run x writes
@@ -195,14 +227,18 @@ module _ (v : Shown) (s : State) (good : Good v s) (run : IsRunning (state_of go
         file_at_new = later_at v s good run x writes wal lawful fits drawn
 
         later_tables : HasTables made v.dir v.kept run.parts.rows
-        later_tables = tables_at v.dir (Log v.kept.next) all.sane.current.named fits x made file_at_new v.kept run.parts.rows (λ number placed found same. cc) all.sane.tables
+        later_tables = tables_at v.dir (Log v.kept.next) all.sane.current.named fits x made file_at_new v.kept run.parts.rows
+            (λ number placed found same. cc) all.sane.tables
 
     -- wherever the making of the log was refused, a halt there leaves a good store
-    pub making_halts : (T : Type 0) (story : Story) (r : DiskRefusal) → seen.told ≡ Some story → IsMade {T = T} x (new v s good run x writes wal lawful fits drawn) (Err r) (state_of story)
+    pub making_halts : (T : Type 0) (story : Story) (r : DiskRefusal) → seen.told ≡ Some story
+        → IsMade {T = T} x (new v s good run x writes wal lawful fits drawn) (Err r) (state_of story)
         → Good (halted_shown seen at v) (halted_state seen at s.doubtful s)
     making_halts T story r told is = ⊎_elim
-        (λ same. synced_halts v s good run seen at story told (subst (WritesAt v.dir (Log run.parts.last.number) (state_of good.story)) (sym same) writes) (length run.parts.last.batches)
-        (subst (λ (y : disk.State). HasLast y v.dir run.parts (length run.parts.last.batches)) (sym same) wal) (omega (arith, durable_few v s good run, all_sure v s good run)))
+        (λ same. synced_halts v s good run seen at story told
+        (subst (WritesAt v.dir (Log run.parts.last.number) (state_of good.story)) (sym same) writes) (length run.parts.last.batches)
+        (subst (λ (y : disk.State). HasLast y v.dir run.parts (length run.parts.last.batches)) (sym same) wal)
+        (omega (arith, durable_few v s good run, all_sure v s good run)))
         (λ further. ⊎_elim
         (λ new_file. created_halts story told new_file)
         (λ sure_name. later_halts story told (sure_name ∙ after_names_synced with_file))

@@ -39,18 +39,31 @@ module _ (dir : List ℕ) (fits : is_folder_name dir ≡ true) where
   abbrev d : disk.State
   d = folder_disk dir next_files
 
-  whole : (index : ℕ) (name : FileName) (bytes : List ℕ) → slice_get next_files index ≡ Some (record { name = name; bytes = bytes }) → IsWholeFile d (path_in dir name) bytes
+  whole : (index : ℕ) (name : FileName) (bytes : List ℕ) → slice_get next_files index
+      ≡ Some (record { name = name; bytes = bytes }) → IsWholeFile d (path_in dir name) bytes
   whole = whole_at dir fits next_files next_apart next_named
 
   log_file : IsWholeFile d (path_in dir (Log 7)) []
   log_file = whole 6 (Log 7) [] refl
 
   is_current : IsCurrent d dir next_kept
-  is_current = record { named = fits; folder = folder_kept dir fits next_files next_apart; numbered = refl; file = whole 0 Current (current_text 1) refl }
+  is_current = record {
+    named = fits;
+    folder = folder_kept dir fits next_files next_apart;
+    numbered = refl;
+    file = whole 0 Current (current_text 1) refl;
+  }
 
   has_edits : HasEdits d dir next_kept next_parts.edits
   unfolding next_manifest
-  has_edits = record { are = next_are; file = whole 5 (Manifest 1) next_manifest refl; len = refl; version = sym next_tables; log = sym next_log; last = sym next_last }
+  has_edits = record {
+    are = next_are;
+    file = whole 5 (Manifest 1) next_manifest refl;
+    len = refl;
+    version = sym next_tables;
+    log = sym next_log;
+    last = sym next_last;
+  }
 
   first_table : HasTable d dir next_kept 3 its_placed (its_row ∷ [])
   first_table = record {
@@ -74,11 +87,20 @@ module _ (dir : List ℕ) (fits : is_folder_name dir ≡ true) where
 
   has_tables : HasTables d dir next_kept next_parts.rows
   has_tables = record {
-    each = λ number placed is. each_of_two (λ n p. HasTable d dir next_kept n p (next_parts.rows n)) second_table first_table number placed (two_tables number placed is);
+    each = λ number placed is. each_of_two (λ n p. HasTable d dir next_kept n p
+        (next_parts.rows n)) second_table first_table number placed (two_tables number placed is);
   }
 
   empty_wal : IsWal d (path_in dir (Log 7)) [] 0
-  empty_wal = record { id = log_file.id; file = sealed []; kept = log_file.file; text = refl; within = omega arith; synced = omega arith; each = All-nil IsLogged }
+  empty_wal = record {
+    id = log_file.id;
+    file = sealed [];
+    kept = log_file.file;
+    text = refl;
+    within = omega arith;
+    synced = omega arith;
+    each = All-nil IsLogged;
+  }
 
   abbrev IsLiveNumber : ℕ → Type 0
   IsLiveNumber number = (7 ≤ number) × IsFileName (Log number)
@@ -100,8 +122,10 @@ module _ (dir : List ℕ) (fits : is_folder_name dir ≡ true) where
   are_written = record {
     tables = All-nil (λ (table : Unfinished). bytes_at (tree_now d) (path_in dir (Table table.number)) ≡ Some table.bytes);
     alone =
-        All-cons (IsAlone d) (path_in dir (Manifest 1)) (path_in dir (Log 7) ∷ []) (part_alone dir fits next_files next_apart 5 (record { name = Manifest 1; bytes = next_manifest }) refl)
-        (All-cons (IsAlone d) (path_in dir (Log 7)) [] (part_alone dir fits next_files next_apart 6 (record { name = Log 7; bytes = [] }) refl) (All-nil (IsAlone d)));
+        All-cons (IsAlone d) (path_in dir (Manifest 1)) (path_in dir (Log 7) ∷ [])
+        (part_alone dir fits next_files next_apart 5 (record { name = Manifest 1; bytes = next_manifest }) refl)
+        (All-cons (IsAlone d) (path_in dir (Log 7)) [] (part_alone dir fits next_files next_apart 6
+        (record { name = Log 7; bytes = [] }) refl) (All-nil (IsAlone d)));
   }
 
   pub next_sane : Sane d dir next_kept next_parts

@@ -86,7 +86,10 @@ next_edit_is = record {
     record { range = record { some = omega arith; most = omega arith }; behind = inl (omega arith) },
     (
       record { range = (omega arith, omega arith); behind = inl (omega arith) },
-      (record { range = omega arith; behind = inl (omega arith) }, (record { range = (place_is, info_is); behind = inl (omega arith) }, tt)),
+      (
+        record { range = omega arith; behind = inl (omega arith) },
+        (record { range = (place_is, info_is); behind = inl (omega arith) }, tt),
+      ),
     ),
   );
 }
@@ -133,7 +136,8 @@ IsOneOfTwo number placed = ((number ≡ 6) × (placed ≡ next_placed)) ⊎ ((nu
 
 pub two_tables : (number : ℕ) (placed : Placed) → finmap.get next_version number ≡ Some placed → IsOneOfTwo number placed
 two_tables number placed is =
-    elim (eq_by_cmp nat_cmp number 6) as (λ b. eq_by_cmp nat_cmp number 6 ≡ b → cond b (Some next_placed) (finmap.get its_version number) ≡ Some placed → IsOneOfTwo number placed) [
+    elim (eq_by_cmp nat_cmp number 6) as (λ b. eq_by_cmp nat_cmp number 6 ≡ b
+    → cond b (Some next_placed) (finmap.get its_version number) ≡ Some placed → IsOneOfTwo number placed) [
       | true ↦ λ same h. inl (equal_number number 6 same, placed_once placed next_placed (sym h))
       | false ↦ λ other h. inr (only_table number placed h)
     ] refl (sym (finmap.get-insert nat_cmp_total its_version 6 next_placed number) ∙ is)
@@ -145,7 +149,8 @@ pub two_after : (number : ℕ) (placed : Placed) → finmap.get (tables_after ne
 two_after number placed is = two_tables number placed (ap (λ (tables : Tables). finmap.get tables number) (sym next_tables) ∙ is)
 
 -- what holds of both tables
-pub each_of_two : (P : ℕ → Placed → Type 0) → P 6 next_placed → P 3 its_placed → (number : ℕ) (placed : Placed) → IsOneOfTwo number placed → P number placed
+pub each_of_two : (P : ℕ → Placed → Type 0) → P 6 next_placed → P 3 its_placed → (number : ℕ) (placed : Placed)
+    → IsOneOfTwo number placed → P number placed
 each_of_two P six three number placed (inl is) = subst (λ (n : ℕ). P n placed) (sym is.0) (subst (P 6) (sym is.1) six)
 each_of_two P six three number placed (inr is) = subst (λ (n : ℕ). P n placed) (sym is.0) (subst (P 3) (sym is.1) three)
 
@@ -154,7 +159,8 @@ next_table_rows =
     ap (λ (tables : Tables). rows_of_tables tables next_parts.rows) next_tables
     ∙ ap (flat_map (λ (table : ℕ × Placed). next_parts.rows table.0)) next_entries
 
-pub next_shows : contents_of (rows_of_tables (tables_after next_parts.edits) next_parts.rows) ≡ replayed finmap.empty (tabled ∷ older ∷ newer ∷ [])
+pub next_shows : contents_of (rows_of_tables (tables_after next_parts.edits) next_parts.rows)
+    ≡ replayed finmap.empty (tabled ∷ older ∷ newer ∷ [])
 next_shows =
     ap contents_of next_table_rows
     ∙ contents_replayed [] 1 (tabled ∷ older ∷ newer ∷ []) (All-nil (λ (row : Row). row.sequence < 1))
@@ -171,7 +177,8 @@ next_listed = record {
   rows_are = refl;
   smallest = refl;
   largest = refl;
-  sequences = All-cons (IsUpTo 3) older_row (newer_row ∷ []) (omega arith, omega arith) (All-cons (IsUpTo 3) newer_row [] (omega arith, omega arith) (All-nil (IsUpTo 3)));
+  sequences = All-cons (IsUpTo 3) older_row (newer_row ∷ []) (omega arith, omega arith)
+      (All-cons (IsUpTo 3) newer_row [] (omega arith, omega arith) (All-nil (IsUpTo 3)));
 }
 
 level_zero : (number : ℕ) (placed : Placed) → IsOneOfTwo number placed → placed.level ≡ 0
@@ -186,8 +193,10 @@ next_lawful = record {
   };
   listed = λ number placed is.
       subst (IsAsListed placed.info (next_parts.rows number)) (sym next_last)
-      (each_of_two (λ n p. IsAsListed p.info (next_parts.rows n) 3) next_listed (is_listed 3 (omega arith)) number placed (two_after number placed is));
-  distinct = subst (λ (rows : List Row). IsDistinct nat_eq (sequences rows)) (sym next_table_rows) ((refl, (refl, tt)), ((refl, tt), (tt, tt)));
+      (each_of_two (λ n p. IsAsListed p.info (next_parts.rows n) 3) next_listed (is_listed 3 (omega arith)) number placed
+      (two_after number placed is));
+  distinct = subst (λ (rows : List Row). IsDistinct nat_eq (sequences rows)) (sym next_table_rows)
+      ((refl, (refl, tt)), ((refl, tt), (tt, tt)));
 }
 
 -- ---- the manifest, with a front of what is added
@@ -208,10 +217,12 @@ pub cut_says : (n : ℕ) → length its_manifest ≤ n → SaysOneOrTwo (take n 
 unfolding its_manifest next_manifest
 cut_says n least =
     let keeps = log_keeps (map edit_text (its_edit ∷ [])) (map edit_text (next_edit ∷ [])) n least in
-    let some : 1 ≤ length (front (take n next_manifest)) = omega (arith, ap (λ (l : List (List ℕ)). length l) keeps.is, length-append (map edit_text (its_edit ∷ [])) keeps.rest) in
+    let some : 1 ≤ length (front (take n next_manifest)) = omega
+    (arith, ap (λ (l : List (List ℕ)). length l) keeps.is, length-append (map edit_text (its_edit ∷ [])) keeps.rest) in
     one_or_two (take n next_manifest) (length (front (take n next_manifest))) some (manifest_cut next_parts.edits n next_are some)
 
 pub front_says : (n : ℕ) → SaysOneOrTwo (its_manifest ++ take n added_record)
 front_says n =
-    subst SaysOneOrTwo (ap (take (length its_manifest + n)) (sym manifest_grows) ∙ take_past (length its_manifest + n) n its_manifest added_record refl)
+    subst SaysOneOrTwo (ap (take (length its_manifest + n)) (sym manifest_grows) ∙ take_past
+    (length its_manifest + n) n its_manifest added_record refl)
     (cut_says (length its_manifest + n) (omega arith))

@@ -56,10 +56,12 @@ sealed_cut [] [] are = refl
 sealed_cut [] (c ∷ cut) are = absurd are
 sealed_cut (bytes ∷ held) [] are = absurd are
 sealed_cut (bytes ∷ held) (c ∷ cut) are =
-    ap (λ (b : List ℕ). b ∷ cut) (cut_whole (sealed bytes) c refl are.0 ∙ append-nil bytes) ∙ ap (λ (l : List (List ℕ)). bytes ∷ l) (sealed_cut held cut are.1)
+    ap (λ (b : List ℕ). b ∷ cut) (cut_whole (sealed bytes) c refl are.0 ∙ append-nil bytes) ∙ ap
+    (λ (l : List (List ℕ)). bytes ∷ l) (sealed_cut held cut are.1)
 
 -- the last one is cut
-last_cut : (held : List (List ℕ)) (last : FileState) (cut : List (List ℕ)) → AreCut (map sealed held ++ last ∷ []) cut → (bytes : List ℕ) × (cut ≡ held ++ bytes ∷ []) × IsCut last bytes
+last_cut : (held : List (List ℕ)) (last : FileState) (cut : List (List ℕ)) → AreCut (map sealed held ++ last ∷ []) cut
+    → (bytes : List ℕ) × (cut ≡ held ++ bytes ∷ []) × IsCut last bytes
 last_cut [] last [] are = absurd are
 last_cut [] last (c ∷ []) are = (c, refl, are.0)
 last_cut [] last (c ∷ more ∷ cut) are = absurd are.1
@@ -67,7 +69,8 @@ last_cut (bytes ∷ held) last [] are = absurd are
 last_cut (bytes ∷ held) last (c ∷ cut) are =
     let rest = last_cut held last cut are.1 in (
       rest.0,
-      ap (λ (b : List ℕ). b ∷ cut) (cut_whole (sealed bytes) c refl are.0 ∙ append-nil bytes) ∙ ap (λ (l : List (List ℕ)). bytes ∷ l) rest.1,
+      ap (λ (b : List ℕ). b ∷ cut) (cut_whole (sealed bytes) c refl are.0 ∙ append-nil bytes) ∙ ap
+          (λ (l : List (List ℕ)). bytes ∷ l) rest.1,
       rest.2,
     )
 
@@ -151,16 +154,20 @@ module _ (dir : List ℕ) (fits : is_folder_name dir ≡ true) where
   stood : StandsAs dir all_three 3 before
   stood = subst (StandsAs dir all_three 3) (sym before_is) (old_stands dir fits old_names its_manifest [] old_six old_logs pin_manifest)
 
-  module _ (parts : List Part) (apart : AreApart parts) (named : Each IsFileName (names_of parts)) (text : List ℕ) (rest : List (List ℕ)) where
+  module _ (parts : List Part) (apart : AreApart parts) (named : Each IsFileName (names_of parts)) (text : List ℕ)
+      (rest : List (List ℕ)) where
     abbrev t : Tree
     t = tree_of (folder_disk dir parts).durable text rest
 
     alike : AreAlikeOutside dir before t
     alike = record {
-      names = λ name folder other. outside_none dir fits parts apart name folder other ∙ sym (outside_none dir fits its_files its_apart name folder other);
+      names = λ name folder other. outside_none dir fits parts apart name folder other ∙ sym
+          (outside_none dir fits its_files its_apart name folder other);
       items = λ name file folder other fitting.
-          ap (option_map (item_of t.contents)) (outside_file dir fits parts apart (each_all IsFileName (names_of parts) named) name file folder other fitting)
-          ∙ sym (ap (option_map (item_of before.contents)) (outside_file dir fits its_files its_apart (each_all IsFileName (names_of its_files) its_named) name file folder other fitting));
+          ap (option_map (item_of t.contents)) (outside_file dir fits parts apart
+          (each_all IsFileName (names_of parts) named) name file folder other fitting)
+          ∙ sym (ap (option_map (item_of before.contents)) (outside_file dir fits its_files its_apart
+          (each_all IsFileName (names_of its_files) its_named) name file folder other fitting));
     }
 
     is_kept : StandsAs dir all_three 3 t → IsKeptImage dir d t
@@ -219,7 +226,10 @@ module _ (dir : List ℕ) (fits : is_folder_name dir ≡ true) where
   at_start = record {
     each = λ t image.
         let same : t ≡ tree_of old_names its_manifest [] =
-        λ i. record { names = (image.names ∙ none_pending image.kept old_names) i; contents = sealed_cut (five ++ its_manifest ∷ []) t.contents image.files i } in
+        λ i. record {
+          names = (image.names ∙ none_pending image.kept old_names) i;
+          contents = sealed_cut (five ++ its_manifest ∷ []) t.contents image.files i;
+        } in
         subst (IsKeptImage dir d) (sym same) (by_text its_manifest (inl pin_manifest));
   }
 
@@ -229,23 +239,34 @@ module _ (dir : List ℕ) (fits : is_folder_name dir ≡ true) where
         let last = last_cut five (longer added_record (sealed its_manifest)) t.contents image.files in
         let cut = cut_front (longer added_record (sealed its_manifest)) last.0 last.2 in
         let text : last.0 ≡ take cut.count next_manifest = cut.is ∙ ap (take cut.count) manifest_grows in
-        let same : t ≡ tree_of old_names last.0 [] = λ i. record { names = (image.names ∙ none_pending image.kept old_names) i; contents = last.1 i } in
+        let same : t ≡ tree_of old_names last.0 [] = λ i. record {
+          names = (image.names ∙ none_pending image.kept old_names) i;
+          contents = last.1 i;
+        } in
         subst (IsKeptImage dir d) (sym same) (by_text last.0 (subst SaysOneOrTwo (sym text) (cut_says cut.count cut.enough)));
   }
 
   when_synced : KeepsAll synced
   when_synced = record {
     each = λ t image.
-        let held = sealed_cut (five ++ (its_manifest ++ added_record) ∷ []) t.contents image.files ∙ ap (λ (text : List ℕ). five ++ text ∷ []) manifest_grows in
-        let same : t ≡ tree_of old_names next_manifest [] = λ i. record { names = (image.names ∙ none_pending image.kept old_names) i; contents = held i } in
+        let held = sealed_cut (five ++ (its_manifest ++ added_record) ∷ []) t.contents image.files ∙ ap
+        (λ (text : List ℕ). five ++ text ∷ []) manifest_grows in
+        let same : t ≡ tree_of old_names next_manifest [] = λ i. record {
+          names =
+              (image.names ∙ none_pending image.kept old_names) i;
+          contents = held i;
+        } in
         subst (IsKeptImage dir d) (sym same) (by_edits []);
   }
 
-  with_new_file : (t : Tree) → AreCut (map sealed (five ++ (its_manifest ++ added_record) ∷ [] ∷ [])) t.contents → t.contents ≡ (tree_of new_names next_manifest ([] ∷ [])).contents
+  with_new_file : (t : Tree) → AreCut (map sealed (five ++ (its_manifest ++ added_record) ∷ [] ∷ [])) t.contents
+      → t.contents ≡ (tree_of new_names next_manifest ([] ∷ [])).contents
   with_new_file t cut =
-      sealed_cut (five ++ (its_manifest ++ added_record) ∷ [] ∷ []) t.contents cut ∙ ap (λ (text : List ℕ). five ++ text ∷ [] ∷ []) manifest_grows
+      sealed_cut (five ++ (its_manifest ++ added_record) ∷ [] ∷ []) t.contents cut ∙ ap
+      (λ (text : List ℕ). five ++ text ∷ [] ∷ []) manifest_grows
 
-  by_names : (t : Tree) (k : ℕ) → t.names ≡ all_named (take k (Put (path_in dir (Log 7)) (File_node 6) ∷ [])) old_names → t.contents ≡ (tree_of new_names next_manifest ([] ∷ [])).contents
+  by_names : (t : Tree) (k : ℕ) → t.names ≡ all_named (take k (Put (path_in dir (Log 7)) (File_node 6) ∷ [])) old_names
+      → t.contents ≡ (tree_of new_names next_manifest ([] ∷ [])).contents
       → IsKeptImage dir d t
   by_names t zero names contents =
       let same : t ≡ tree_of old_names next_manifest ([] ∷ []) = λ i. record { names = names i; contents = contents i } in
@@ -260,7 +281,8 @@ module _ (dir : List ℕ) (fits : is_folder_name dir ≡ true) where
 
   at_end : (t : Tree) → IsImage done t → t ≡ tree_of new_names next_manifest ([] ∷ [])
   at_end t image =
-      let names : t.names ≡ new_names = image.names ∙ none_pending image.kept (finmap.insert old_names (path_in dir (Log 7)) (File_node 6)) ∙ names_grow in
+      let names : t.names ≡ new_names = image.names ∙ none_pending image.kept
+      (finmap.insert old_names (path_in dir (Log 7)) (File_node 6)) ∙ names_grow in
       let contents = with_new_file t image.files in
       λ i. record { names = names i; contents = contents i }
 
@@ -271,7 +293,12 @@ module _ (dir : List ℕ) (fits : is_folder_name dir ≡ true) where
   went = record {
     story = record { start = d; log = next_changes dir };
     tells = refl;
-    goes = record { more = next_changes dir; grows = refl; kind = (tt, (tt, (tt, (tt, tt)))); along = (at_start, (while_appended, (when_synced, (when_created, when_done)))) };
+    goes = record {
+      more = next_changes dir;
+      grows = refl;
+      kind = (tt, (tt, (tt, (tt, tt))));
+      along = (at_start, (while_appended, (when_synced, (when_created, when_done))));
+    };
     now = tt;
   }
 
@@ -281,7 +308,8 @@ module _ (dir : List ℕ) (fits : is_folder_name dir ≡ true) where
   done_is = λ i. record {
     durable = names_grow i;
     pending = [];
-    files = sealed (current_text 1) ∷ sealed its_table ∷ sealed older_log ∷ sealed last_log ∷ sealed next_table ∷ sealed (manifest_grows i) ∷ sealed [] ∷ [];
+    files = sealed (current_text 1) ∷ sealed its_table ∷ sealed older_log ∷ sealed last_log ∷ sealed next_table
+        ∷ sealed (manifest_grows i) ∷ sealed [] ∷ [];
     links = true;
   }
 
@@ -289,7 +317,8 @@ module _ (dir : List ℕ) (fits : is_folder_name dir ≡ true) where
   changes = record { now = outside (tree_now done) (reads_image done); images = λ t image. (before, reads_image d, outside t image) }
     where
       outside : (t : Tree) → IsImage done t → AreAlikeOutside dir before t
-      outside t image = subst (AreAlikeOutside dir before) (sym (at_end t image)) (alike next_files next_apart next_named next_manifest ([] ∷ []))
+      outside t image = subst (AreAlikeOutside dir before) (sym (at_end t image))
+          (alike next_files next_apart next_named next_manifest ([] ∷ []))
 
   module _ (s : State) (own : s.own ≡ dir) (found : IsFound d s) where
     abbrev opened : State
@@ -313,7 +342,8 @@ module _ (dir : List ℕ) (fits : is_folder_name dir ≡ true) where
         (subst (λ (name : List ℕ). Stands (files_in name before) shown.contents shown.sequence) own stands.stands) in
         λ i. record { sequence = same.1 i; contents = same.0 i }
     shown_by count (As_fresh fresh none) =
-        not_fresh dir before all_three 3 (folder_has_bytes dir fits) stood.folder stood.stands (subst (λ (name : List ℕ). IsFresh (place_of name before)) own fresh)
+        not_fresh dir before all_three 3 (folder_has_bytes dir fits) stood.folder stood.stands
+        (subst (λ (name : List ℕ). IsFresh (place_of name before)) own fresh)
 
     opens_so : Opened s opened
     opens_so = record {
@@ -367,7 +397,12 @@ module _ (dir : List ℕ) (fits : is_folder_name dir ≡ true) where
       pinned = record { pins = tt; files = All-nil (λ (pin : Pin). PinFiles done dir pin.files) };
       folders = reads_so;
       clear = subst AreClearable (sym done_is) (clear dir fits next_files next_apart);
-      counted = record { durable = omega arith; numbers = All-nil (λ (pin : Pin). pin.number ≤ 0); fronts = All-nil (λ (pin : Pin). pin.batches ≤ 0); begun = tt };
+      counted = record {
+        durable = omega arith;
+        numbers = All-nil (λ (pin : Pin). pin.number ≤ 0);
+        fronts = All-nil (λ (pin : Pin). pin.batches ≤ 0);
+        begun = tt;
+      };
       kept = record { own = sym own; sequence = refl; greatest_pin = refl; disables = refl; begun = refl; halt = refl };
       counts = record { faults = refl; refusals = refl };
     }
@@ -379,5 +414,6 @@ module _ (dir : List ℕ) (fits : is_folder_name dir ≡ true) where
     moments = kept_loses_nothing (untouched d) dir (next_store dir).disk.told fits went;
   }
 
-  pub next_reopened : (folders : List FolderRead) → Good (its_store dir) (its_state dir folders) → ReopensTo (its_state dir folders) (next_store dir)
+  pub next_reopened : (folders : List FolderRead) → Good (its_store dir) (its_state dir folders)
+      → ReopensTo (its_state dir folders) (next_store dir)
   next_reopened folders good = its_reopening dir fits folders (untouched d) (next_store dir) good (its_settled dir fits) refl next_opened

@@ -57,7 +57,8 @@ pub record HasSix (dir : List ℕ) (names : Names) : Type 0 where
 
 -- no log is there from a number on but these
 abbrev pub HasNoOther : List ℕ → Names → ℕ → List ℕ → Type 0
-HasNoOther dir names least logs = (number : ℕ) → least ≤ number → IsFileName (Log number) → (Contains logs number → ⊥) → finmap.get names (path_in dir (Log number)) ≡ None
+HasNoOther dir names least logs = (number : ℕ) → least ≤ number → IsFileName (Log number) → (Contains logs number → ⊥)
+    → finmap.get names (path_in dir (Log number)) ≡ None
 
 -- a tree with these names, where the manifest has this text
 abbrev pub tree_of : Names → List ℕ → List (List ℕ) → Tree
@@ -70,34 +71,40 @@ differs number other test itself same = let clash : true ≡ false = sym itself 
 
 no_logs_read : AreLogs 4 (finmap.entries (finmap.from_entries {R = nat_cmp} [])) []
 unfolding AreLogs
-no_logs_read = subst (λ (es : List (ℕ × List ℕ)). AreLogs 4 es []) (sym (same_entries nat_cmp nat_cmp_total [] tt finmap.nat_cmp-IsAntisymmetric)) tt
+no_logs_read = subst (λ (es : List (ℕ × List ℕ)). AreLogs 4 es [])
+    (sym (same_entries nat_cmp nat_cmp_total [] tt finmap.nat_cmp-IsAntisymmetric)) tt
 
 one_log_read : AreLogs 4 (finmap.entries (finmap.from_entries {R = nat_cmp} ((7, []) ∷ []))) ([] ∷ [])
 unfolding AreLogs
 one_log_read =
-    subst (λ (es : List (ℕ × List ℕ)). AreLogs 4 es ([] ∷ [])) (sym (same_entries nat_cmp nat_cmp_total ((7, []) ∷ []) tt finmap.nat_cmp-IsAntisymmetric))
+    subst (λ (es : List (ℕ × List ℕ)). AreLogs 4 es ([] ∷ []))
+    (sym (same_entries nat_cmp nat_cmp_total ((7, []) ∷ []) tt finmap.nat_cmp-IsAntisymmetric))
     (record { torn = None; reading = whole_reads 4 [] (All-nil IsLogged); ends = refl }, tt)
 
 -- ---- the tree
 
-module _ (dir : List ℕ) (fits : is_folder_name dir ≡ true) (names : Names) (text : List ℕ) (rest : List (List ℕ)) (has : HasSix dir names) where
+module _ (dir : List ℕ) (fits : is_folder_name dir ≡ true) (names : Names) (text : List ℕ) (rest : List (List ℕ))
+    (has : HasSix dir names) where
   abbrev t : Tree
   t = tree_of names text rest
 
   abbrev files : Files
   files = files_in dir t
 
-  leads : (path bytes : List ℕ) (id : ℕ) → finmap.get names path ≡ Some (File_node id) → bytes_by (Some id) t ≡ Some bytes → bytes_at t path ≡ Some bytes
+  leads : (path bytes : List ℕ) (id : ℕ) → finmap.get names path ≡ Some (File_node id) → bytes_by (Some id) t ≡ Some bytes
+      → bytes_at t path ≡ Some bytes
   leads path bytes id found is = ap (λ (node : Option Node). bytes_by (id_of node) t) found ∙ is
 
-  in_folder : (name : FileName) (bytes : List ℕ) → IsFileName name → bytes_at t (path_in dir name) ≡ Some bytes → file_at files name ≡ Some bytes
+  in_folder : (name : FileName) (bytes : List ℕ) → IsFileName name → bytes_at t (path_in dir name) ≡ Some bytes
+      → file_at files name ≡ Some bytes
   in_folder name bytes file is = file_there dir t name bytes (folder_has_bytes dir fits) file is
 
   no_log : (number : ℕ) → (IsFileName (Log number) → finmap.get names (path_in dir (Log number)) ≡ None) → file_at files (Log number) ≡ None
   no_log number none =
       elim (is_file_number number) as (λ b. is_file_number number ≡ b → file_at files (Log number) ≡ None) [
         | true ↦ λ file. file_gone dir t (Log number) (folder_has_bytes dir fits) file (ap id_of (none file))
-        | false ↦ λ never. file_never dir t (Log number) (folder_has_bytes dir fits) (λ file. let clash : false ≡ true = sym never ∙ file in absurd (cc))
+        | false ↦ λ never. file_never dir t (Log number) (folder_has_bytes dir fits)
+            (λ file. let clash : false ≡ true = sym never ∙ file in absurd (cc))
       ] refl
 
   current_there : file_at files Current ≡ Some (current_text 1)
@@ -130,23 +137,28 @@ module _ (dir : List ℕ) (fits : is_folder_name dir ≡ true) (names : Names) (
     neither : (number : ℕ) → eq_by_cmp nat_cmp number 4 ≡ false → eq_by_cmp nat_cmp number 5 ≡ false → Contains (4 ∷ 5 ∷ []) number → ⊥
     neither number first second among =
         All-contains (λ (n : ℕ). n ≢ number) (4 ∷ 5 ∷ []) number
-        (All-cons (λ (n : ℕ). n ≢ number) 4 (5 ∷ []) (differs number 4 first refl) (All-cons (λ (n : ℕ). n ≢ number) 5 [] (differs number 5 second refl) (All-nil (λ (n : ℕ). n ≢ number)))) among refl
+        (All-cons (λ (n : ℕ). n ≢ number) 4 (5 ∷ []) (differs number 4 first refl)
+        (All-cons (λ (n : ℕ). n ≢ number) 5 [] (differs number 5 second refl) (All-nil (λ (n : ℕ). n ≢ number)))) among refl
 
     log_there : (number : ℕ) → 4 ≤ number → file_at files (Log number) ≡ finmap.find nat_cmp number ((4, older_log) ∷ (5, last_log) ∷ [])
     log_there number least =
-        elim (eq_by_cmp nat_cmp number 4) as (λ b. eq_by_cmp nat_cmp number 4 ≡ b → file_at files (Log number) ≡ cond b (Some older_log) (cond (eq_by_cmp nat_cmp number 5) (Some last_log) None)) [
+        elim (eq_by_cmp nat_cmp number 4) as (λ b. eq_by_cmp nat_cmp number 4 ≡ b
+        → file_at files (Log number) ≡ cond b (Some older_log) (cond (eq_by_cmp nat_cmp number 5) (Some last_log) None)) [
           | true ↦ λ same. subst (λ (n : ℕ). file_at files (Log n) ≡ Some older_log) (sym (equal_number number 4 same)) older_there
-          | false ↦ λ first. elim (eq_by_cmp nat_cmp number 5) as (λ b. eq_by_cmp nat_cmp number 5 ≡ b → file_at files (Log number) ≡ cond b (Some last_log) None) [
-            | true ↦ λ same. subst (λ (n : ℕ). file_at files (Log n) ≡ Some last_log) (sym (equal_number number 5 same)) newer_there
-            | false ↦ λ second. no_log number (λ file. no_other number least file (neither number first second))
-          ] refl
+          | false ↦ λ first. elim (eq_by_cmp nat_cmp number 5) as
+              (λ b. eq_by_cmp nat_cmp number 5 ≡ b → file_at files (Log number) ≡ cond b (Some last_log) None) [
+                | true ↦ λ same. subst (λ (n : ℕ). file_at files (Log n) ≡ Some last_log) (sym (equal_number number 5 same)) newer_there
+                | false ↦ λ second. no_log number (λ file. no_other number least file (neither number first second))
+              ] refl
         ] refl
 
     logs_there : (number : ℕ) → 4 ≤ number → file_at files (Log number) ≡ finmap.get (logs_with its_parts (last_text its_parts)) number
     unfolding last_after numbers_after older_log last_log
-    logs_there number least = log_there number least ∙ sym (finmap.get-from_entries nat_cmp_total (texts_with its_parts (last_text its_parts)) number)
+    logs_there number least = log_there number least ∙ sym (finmap.get-from_entries nat_cmp_total
+        (texts_with its_parts (last_text its_parts)) number)
 
-    old_parts : HasParts files its_parts.edits its_parts.rows (logs_with its_parts (last_text its_parts)) (batches_with its_parts its_parts.last.batches)
+    old_parts : HasParts files its_parts.edits its_parts.rows (logs_with its_parts (last_text its_parts))
+        (batches_with its_parts its_parts.last.batches)
     old_parts =
         let all = has_all (its_disk dir) dir its_kept its_parts (its_sane dir fits) in
         record {
@@ -158,8 +170,12 @@ module _ (dir : List ℕ) (fits : is_folder_name dir ≡ true) (names : Names) (
           edits_are = says;
           tables = λ number placed is.
               let only = table_after number placed is in
-              subst (λ n. reading.HasTable files n placed (its_row ∷ [])) (sym only.0) (subst (λ p. reading.HasTable files 3 p (its_row ∷ [])) (sym only.1) first_table);
-          has_logs = record { there = λ number least. logs_there number (subst (λ (n : ℕ). n ≤ number) log_is least); live = all.has_logs.live };
+              subst (λ n. reading.HasTable files n placed (its_row ∷ [])) (sym only.0)
+              (subst (λ p. reading.HasTable files 3 p (its_row ∷ [])) (sym only.1) first_table);
+          has_logs = record {
+            there = λ number least. logs_there number (subst (λ (n : ℕ). n ≤ number) log_is least);
+            live = all.has_logs.live;
+          };
           logs_are = all.logs_are;
         }
 
@@ -169,10 +185,12 @@ module _ (dir : List ℕ) (fits : is_folder_name dir ≡ true) (names : Names) (
   -- ---- with both edits
 
   abbrev HasWhole : ℕ → Placed → Type 0
-  HasWhole number placed = (bytes : List ℕ) × (bytes_at t (path_in dir (Table number)) ≡ Some bytes) × IsTable bytes (next_parts.rows number) number placed.info.session
+  HasWhole number placed = (bytes : List ℕ) × (bytes_at t (path_in dir (Table number)) ≡ Some bytes)
+      × IsTable bytes (next_parts.rows number) number placed.info.session
 
   module _ (es : List (ℕ × List ℕ)) (batches : List (List (List Op))) (none : all_of batches ≡ []) (says : IsManifest text next_parts.edits)
-      (there : (number : ℕ) → 7 ≤ number → file_at files (Log number) ≡ finmap.find nat_cmp number es) (live : (number : ℕ) (bytes : List ℕ) → finmap.find nat_cmp number es ≡ Some bytes → 7 ≤ number)
+      (there : (number : ℕ) → 7 ≤ number → file_at files (Log number) ≡ finmap.find nat_cmp number es)
+      (live : (number : ℕ) (bytes : List ℕ) → finmap.find nat_cmp number es ≡ Some bytes → 7 ≤ number)
       (logs : AreLogs 4 (finmap.entries (finmap.from_entries {R = nat_cmp} es)) batches) where
     new_parts : HasParts files next_parts.edits next_parts.rows (finmap.from_entries es) batches
     new_parts = record {
@@ -182,10 +200,13 @@ module _ (dir : List ℕ) (fits : is_folder_name dir ≡ true) (names : Names) (
       text = text;
       there = manifest_there;
       edits_are = says;
-      tables = λ number placed is. each_of_two (λ n p. reading.HasTable files n p (next_parts.rows n)) second_table first_table number placed (two_after number placed is);
+      tables = λ number placed is. each_of_two (λ n p. reading.HasTable files n p
+          (next_parts.rows n)) second_table first_table number placed (two_after number placed is);
       has_logs = record {
-        there = λ number least. there number (subst (λ (n : ℕ). n ≤ number) next_log least) ∙ sym (finmap.get-from_entries nat_cmp_total es number);
-        live = λ number bytes is. subst (λ (n : ℕ). n ≤ number) (sym next_log) (live number bytes (sym (finmap.get-from_entries nat_cmp_total es number) ∙ is));
+        there = λ number least. there number (subst (λ (n : ℕ). n ≤ number) next_log least) ∙ sym
+            (finmap.get-from_entries nat_cmp_total es number);
+        live = λ number bytes is. subst (λ (n : ℕ). n ≤ number) (sym next_log)
+            (live number bytes (sym (finmap.get-from_entries nat_cmp_total es number) ∙ is));
       };
       logs_are = subst (λ (n : ℕ). AreLogs (n + 1) (finmap.entries (finmap.from_entries {R = nat_cmp} es)) batches) (sym next_last) logs;
     }
@@ -194,12 +215,15 @@ module _ (dir : List ℕ) (fits : is_folder_name dir ≡ true) (names : Names) (
     new_stands =
         let stands = parts_stand files next_parts.edits next_parts.rows (finmap.from_entries es) batches new_parts next_lawful in
         let rows : contents_of (rows_of_all next_parts.edits next_parts.rows batches) ≡ all_three =
-        ap (λ (l : List (List Op)). contents_of (rows_of_tables (tables_after next_parts.edits) next_parts.rows ++ rows_of (last_after next_parts.edits + 1) l)) none
+        ap (λ (l : List (List Op)). contents_of (rows_of_tables (tables_after next_parts.edits) next_parts.rows
+        ++ rows_of (last_after next_parts.edits + 1) l)) none
         ∙ ap contents_of (append-nil (rows_of_tables (tables_after next_parts.edits) next_parts.rows)) ∙ next_shows in
-        let sequence : sequence_after (last_after next_parts.edits) (all_of batches) ≡ 3 = ap (sequence_after (last_after next_parts.edits)) none ∙ next_last in
+        let sequence : sequence_after (last_after next_parts.edits) (all_of batches) ≡ 3 =
+        ap (sequence_after (last_after next_parts.edits)) none ∙ next_last in
         record {
           folder = has.folder;
-          stands = subst (λ (m : Contents). Stands files m 3) rows (subst (Stands files (contents_of (rows_of_all next_parts.edits next_parts.rows batches))) sequence stands);
+          stands = subst (λ (m : Contents). Stands files m 3) rows
+              (subst (Stands files (contents_of (rows_of_all next_parts.edits next_parts.rows batches))) sequence stands);
         }
 
   -- no log is there from the new number on
@@ -214,13 +238,16 @@ module _ (dir : List ℕ) (fits : is_folder_name dir ≡ true) (names : Names) (
     without_log = new_stands [] [] refl says none_there none_live no_logs_read
 
   -- an empty one is there
-  module _ (seven : bytes_at t (path_in dir (Log 7)) ≡ Some []) (no_other : HasNoOther dir names 7 (7 ∷ [])) (says : IsManifest text next_parts.edits) where
+  module _ (seven : bytes_at t (path_in dir (Log 7)) ≡ Some []) (no_other : HasNoOther dir names 7 (7 ∷ []))
+      (says : IsManifest text next_parts.edits) where
     one_there : (number : ℕ) → 7 ≤ number → file_at files (Log number) ≡ finmap.find nat_cmp number ((7, []) ∷ [])
     one_there number least =
         elim (eq_by_cmp nat_cmp number 7) as (λ b. eq_by_cmp nat_cmp number 7 ≡ b → file_at files (Log number) ≡ cond b (Some []) None) [
-          | true ↦ λ same. subst (λ (n : ℕ). file_at files (Log n) ≡ Some []) (sym (equal_number number 7 same)) (in_folder (Log 7) [] refl seven)
+          | true ↦ λ same. subst (λ (n : ℕ). file_at files (Log n) ≡ Some []) (sym (equal_number number 7 same))
+              (in_folder (Log 7) [] refl seven)
           | false ↦ λ other. no_log number (λ file. no_other number least file (λ among.
-              All-contains (λ (n : ℕ). n ≢ number) (7 ∷ []) number (All-cons (λ (n : ℕ). n ≢ number) 7 [] (differs number 7 other refl) (All-nil (λ (n : ℕ). n ≢ number))) among refl))
+              All-contains (λ (n : ℕ). n ≢ number) (7 ∷ []) number
+              (All-cons (λ (n : ℕ). n ≢ number) 7 [] (differs number 7 other refl) (All-nil (λ (n : ℕ). n ≢ number))) among refl))
         ] refl
 
     one_live : (number : ℕ) (bytes : List ℕ) → finmap.find nat_cmp number ((7, []) ∷ []) ≡ Some bytes → 7 ≤ number

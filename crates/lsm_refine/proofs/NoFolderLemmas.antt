@@ -21,10 +21,12 @@ some_once : (m n : Node) → Some m ≡ Some n → m ≡ n
 some_once m n e = cc
 
 -- the path leads to this node neither now nor after a crash
-module _ (d : State) (path : List ℕ) (node : Node) (never : (k : ℕ) → finmap.get (all_named (take k d.pending) d.durable) path ≢ Some node) where
+module _ (d : State) (path : List ℕ) (node : Node) (never : (k : ℕ)
+    → finmap.get (all_named (take k d.pending) d.durable) path ≢ Some node) where
   never_now : finmap.get (names_now d) path ≢ Some node
   never_now is =
-      never (length d.pending) (ap (λ (ops : List NameOp). finmap.get (all_named ops d.durable) path) (take_all (length d.pending) d.pending (omega arith)) ∙ is)
+      never (length d.pending) (ap (λ (ops : List NameOp). finmap.get (all_named ops d.durable) path)
+      (take_all (length d.pending) d.pending (omega arith)) ∙ is)
 
   -- nor behind one operation more, where it doesn't behind that
   never_after : (op : NameOp) → finmap.get (named op (names_now d)) path ≢ Some node → (k : ℕ)
@@ -61,8 +63,10 @@ file_or_folder n same = cc
 
 pub made_files : (d : State) (dir path : List ℕ) → AreFiles d dir → AreFiles (after d (Created path)) dir
 made_files d dir path are = record {
-  no_folder = λ name k fits. never_after d (path_in dir name) Folder_node (λ j. are.no_folder name j fits) (Put path (File_node (length d.files)))
-      (never_put d (path_in dir name) Folder_node (λ j. are.no_folder name j fits) path (File_node (length d.files)) (λ same. file_or_folder (length d.files))) k;
+  no_folder = λ name k fits. never_after d (path_in dir name) Folder_node (λ j. are.no_folder name j fits)
+      (Put path (File_node (length d.files)))
+      (never_put d (path_in dir name) Folder_node (λ j. are.no_folder name j fits) path (File_node (length d.files))
+      (λ same. file_or_folder (length d.files))) k;
 }
 
 pub removed_files : (d : State) (dir path : List ℕ) → AreFiles d dir → AreFiles (after d (Named (Gone path))) dir
@@ -75,11 +79,14 @@ removed_files d dir path are = record {
 
 pub made_clear : (d : State) (own : List ℕ) (file : FileName) → AreClearable d → AreClearable (after d (Created (path_in own file)))
 made_clear d own file are = record {
-  no_file = λ dir k id fits. never_after d (built_in dir) (File_node id) (λ j. are.no_file dir j id fits) (Put (path_in own file) (File_node (length d.files)))
+  no_file = λ dir k id fits. never_after d (built_in dir) (File_node id) (λ j. are.no_file dir j id fits)
+      (Put (path_in own file) (File_node (length d.files)))
       (never_put d (built_in dir) (File_node id) (λ j. are.no_file dir j id fits) (path_in own file) (File_node (length d.files))
       (λ same. absurd (apart_from (built_in dir) own (spelled file) (built_flat dir fits) same))) k;
-  no_folder = λ dir rest k fits. never_after d (built_in dir ++ 47 ∷ rest) Folder_node (λ j. are.no_folder dir rest j fits) (Put (path_in own file) (File_node (length d.files)))
-      (never_put d (built_in dir ++ 47 ∷ rest) Folder_node (λ j. are.no_folder dir rest j fits) (path_in own file) (File_node (length d.files)) (λ same. file_or_folder (length d.files))) k;
+  no_folder = λ dir rest k fits. never_after d (built_in dir ++ 47 ∷ rest) Folder_node (λ j. are.no_folder dir rest j fits)
+      (Put (path_in own file) (File_node (length d.files)))
+      (never_put d (built_in dir ++ 47 ∷ rest) Folder_node (λ j. are.no_folder dir rest j fits) (path_in own file)
+      (File_node (length d.files)) (λ same. file_or_folder (length d.files))) k;
 }
 
 pub removed_clear : (d : State) (path : List ℕ) → AreClearable d → AreClearable (after d (Named (Gone path)))

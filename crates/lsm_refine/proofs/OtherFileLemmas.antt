@@ -66,11 +66,14 @@ slash_is y same is = let clash : true ≡ false = ap (λ (n : ℕ). n == 47) sam
 -- a text with one slash is cut there alone
 one_slash : (xs ys a b : List ℕ) → has_slash ys ≡ false → has_slash b ≡ false → xs ++ 47 ∷ a ≡ ys ++ 47 ∷ b → xs ≡ ys
 one_slash [] [] a b first second same = refl
-one_slash [] (y ∷ ys) a b first second same = absurd (slash_is y (heads 47 y a (ys ++ 47 ∷ b) same).0 (parts_false (y == 47) (has_slash ys) first).0)
-one_slash (x ∷ xs) [] a b first second same = let clash : true ≡ false = sym (slash_inside xs a) ∙ ap has_slash (heads x 47 (xs ++ 47 ∷ a) b same).1 ∙ second in absurd (cc)
+one_slash [] (y ∷ ys) a b first second same = absurd (slash_is y (heads 47 y a (ys ++ 47 ∷ b) same).0
+    (parts_false (y == 47) (has_slash ys) first).0)
+one_slash (x ∷ xs) [] a b first second same = let clash : true ≡ false =
+    sym (slash_inside xs a) ∙ ap has_slash (heads x 47 (xs ++ 47 ∷ a) b same).1 ∙ second in absurd (cc)
 one_slash (x ∷ xs) (y ∷ ys) a b first second same =
     let rest = heads x y (xs ++ 47 ∷ a) (ys ++ 47 ∷ b) same in
-    ap (λ (n : ℕ). n ∷ xs) rest.0 ∙ ap (λ (l : List ℕ). y ∷ l) (one_slash xs ys a b (parts_false (y == 47) (has_slash ys) first).1 second rest.1)
+    ap (λ (n : ℕ). n ∷ xs) rest.0 ∙ ap (λ (l : List ℕ). y ∷ l)
+    (one_slash xs ys a b (parts_false (y == 47) (has_slash ys) first).1 second rest.1)
 
 -- a checkpoint is built in no folder of a store
 right_all : (xs ys : List ℕ) → list_all is_folder_byte (xs ++ ys) ≡ true → list_all is_folder_byte ys ≡ true
@@ -111,14 +114,16 @@ module _ (dir : List ℕ) (name : FileName) (named : is_folder_name dir ≡ true
   dir_apart same = omega (arith, length-append dir (47 ∷ spelled name), ap (λ (l : List ℕ). length l) same)
 
   pub same_name : (other : FileName) → IsFileName other → path_in dir other ≡ path → other ≡ name
-  same_name other is same = spelled_injective other name is fits (ap (λ (l : List ℕ). drop 1 l) (append_cancel_left dir (47 ∷ spelled other) (47 ∷ spelled name) same))
+  same_name other is same = spelled_injective other name is fits
+      (ap (λ (l : List ℕ). drop 1 l) (append_cancel_left dir (47 ∷ spelled other) (47 ∷ spelled name) same))
 
   pub name_apart : (other : FileName) → IsFileName other → other ≢ name → path_in dir other ≢ path
   name_apart other is differs same = differs (same_name other is same)
 
   -- nothing inside another folder has the path
   pub outside : (folder rest : List ℕ) → folder ≢ dir → folder ++ 47 ∷ rest ≢ path
-  outside folder rest other same = other (one_slash folder dir rest (spelled name) (flat dir (folder_is_component dir named)) (flat (spelled name) (spelled_is_component name fits)) same)
+  outside folder rest other same = other (one_slash folder dir rest (spelled name) (flat dir (folder_is_component dir named))
+      (flat (spelled name) (spelled_is_component name fits)) same)
 
   module _ (d later : State) (at : ChangesAt (path_in dir name) d later) where
     -- ---- the store's own files
@@ -131,24 +136,28 @@ module _ (dir : List ℕ) (name : FileName) (named : is_folder_name dir ≡ true
       file = whole_stays path d later at (path_in dir Current) (name_apart Current tt other) _ is.file;
     }
 
-    pub edits_at : (kept : Kept) (edits : List Edit) → IsFileName (Manifest kept.manifest) → Manifest kept.manifest ≢ name → HasEdits d dir kept edits → HasEdits later dir kept edits
+    pub edits_at : (kept : Kept) (edits : List Edit) → IsFileName (Manifest kept.manifest) → Manifest kept.manifest ≢ name
+        → HasEdits d dir kept edits → HasEdits later dir kept edits
     edits_at kept edits numbered other has = record {
       are = has.are;
-      file = whole_stays path d later at (path_in dir (Manifest kept.manifest)) (name_apart (Manifest kept.manifest) numbered other) _ has.file;
+      file = whole_stays path d later at (path_in dir (Manifest kept.manifest))
+          (name_apart (Manifest kept.manifest) numbered other) _ has.file;
       len = has.len;
       version = has.version;
       log = has.log;
       last = has.last;
     }
 
-    pub tables_at : (kept : Kept) (rows : ℕ → List Row) → ((number : ℕ) (placed : Placed) → finmap.get kept.version number ≡ Some placed → Table number ≢ name)
+    pub tables_at : (kept : Kept) (rows : ℕ → List Row) → ((number : ℕ) (placed : Placed)
+        → finmap.get kept.version number ≡ Some placed → Table number ≢ name)
         → HasTables d dir kept rows → HasTables later dir kept rows
     tables_at kept rows others has = record {
       each = λ number placed found. let table = has.each number placed found in
           record {
             numbered = table.numbered;
             bytes = table.bytes;
-            file = whole_stays path d later at (path_in dir (Table number)) (name_apart (Table number) table.numbered (others number placed found)) table.bytes table.file;
+            file = whole_stays path d later at (path_in dir (Table number))
+                (name_apart (Table number) table.numbered (others number placed found)) table.bytes table.file;
             table = table.table;
             size = table.size;
             viewed = table.viewed;
@@ -173,12 +182,17 @@ module _ (dir : List ℕ) (name : FileName) (named : is_folder_name dir ≡ true
     pub synced_at : (first : ℕ) (logs : List LogPart) → All IsOther logs → AreSynced d dir first logs → AreSynced later dir first logs
     synced_at first [] each synced = tt
     synced_at first (log ∷ logs) each synced =
-        let is = All-head IsOther log logs each in
-        (wal_at log.number _ _ is.0 is.1 synced.0, synced_at (sequence_after first log.batches) logs (All-tail IsOther log logs each) synced.1)
+        let is = All-head IsOther log logs each in (
+          wal_at log.number _ _ is.0 is.1 synced.0,
+          synced_at (sequence_after first log.batches) logs
+              (All-tail IsOther log logs each) synced.1,
+        )
 
-    pub given_at : (tables : List Unfinished) → All (λ (table : Unfinished). bytes_at (tree_now d) (path_in dir (Table table.number)) ≡ Some table.bytes) tables → All (IsGiven later dir name) tables
+    pub given_at : (tables : List Unfinished) → All (λ (table : Unfinished). bytes_at (tree_now d)
+        (path_in dir (Table table.number)) ≡ Some table.bytes) tables → All (IsGiven later dir name) tables
     given_at tables are =
-        All-weaker (λ (table : Unfinished). bytes_at (tree_now d) (path_in dir (Table table.number)) ≡ Some table.bytes) (IsGiven later dir name)
+        All-weaker (λ (table : Unfinished). bytes_at (tree_now d) (path_in dir (Table table.number)) ≡ Some table.bytes)
+        (IsGiven later dir name)
         (λ table has differs. bytes_stay path d later at (path_in dir (Table table.number)) differs table.bytes has) tables are
 
     module _ (files : AreFiles d dir) where
@@ -186,7 +200,8 @@ module _ (dir : List ℕ) (name : FileName) (named : is_folder_name dir ≡ true
 
       not_folder : (other : List ℕ) → finmap.get (names_now d) other ≡ Some Folder_node → other ≢ path
       not_folder other is same =
-          files.no_folder name (length d.pending) fits (at_cut d path (Some Folder_node) (ap (λ (p : List ℕ). finmap.get (names_now d) p) (sym same) ∙ is))
+          files.no_folder name (length d.pending) fits (at_cut d path (Some Folder_node)
+          (ap (λ (p : List ℕ). finmap.get (names_now d) p) (sym same) ∙ is))
 
       path_flat : (k : ℕ) → finmap.get (cut_names later k) path ≢ Some Folder_node
       path_flat = at.no_folder (λ j. files.no_folder name j fits)
@@ -194,9 +209,12 @@ module _ (dir : List ℕ) (name : FileName) (named : is_folder_name dir ≡ true
       pub files_at : AreFiles later dir
       files_at = record { no_folder = λ other k is folder. by other k is folder (path_cases (path_in dir other) path) }
         where
-          by : (other : FileName) (k : ℕ) → IsFileName other → finmap.get (cut_names later k) (path_in dir other) ≡ Some Folder_node → (path_in dir other ≡ path) ⊎ (path_in dir other ≢ path) → ⊥
+          by : (other : FileName) (k : ℕ) → IsFileName other
+              → finmap.get (cut_names later k) (path_in dir other) ≡ Some Folder_node
+              → (path_in dir other ≡ path) ⊎ (path_in dir other ≢ path) → ⊥
           by other k is folder (inl same) = path_flat k (ap (λ (p : List ℕ). finmap.get (cut_names later k) p) (sym same) ∙ folder)
-          by other k is folder (inr differs) = let was = some_cut path d later at (path_in dir other) differs k in files.no_folder other was.0 is (sym was.1 ∙ folder)
+          by other k is folder (inr differs) = let was = some_cut path d later at
+              (path_in dir other) differs k in files.no_folder other was.0 is (sym was.1 ∙ folder)
 
       pub clear_at : AreClearable d → AreClearable later
       clear_at are = record {
@@ -206,10 +224,12 @@ module _ (dir : List ℕ) (name : FileName) (named : is_folder_name dir ≡ true
         no_folder = λ built rest k is folder. by built rest k is folder (path_cases (built_in built ++ 47 ∷ rest) path);
       }
         where
-          by : (built rest : List ℕ) (k : ℕ) → is_folder_name built ≡ true → finmap.get (cut_names later k) (built_in built ++ 47 ∷ rest) ≡ Some Folder_node
+          by : (built rest : List ℕ) (k : ℕ) → is_folder_name built ≡ true
+              → finmap.get (cut_names later k) (built_in built ++ 47 ∷ rest) ≡ Some Folder_node
               → (built_in built ++ 47 ∷ rest ≡ path) ⊎ (built_in built ++ 47 ∷ rest ≢ path) → ⊥
           by built rest k is folder (inl same) = path_flat k (ap (λ (p : List ℕ). finmap.get (cut_names later k) p) (sym same) ∙ folder)
-          by built rest k is folder (inr differs) = let was = some_cut path d later at (built_in built ++ 47 ∷ rest) differs k in are.no_folder built rest was.0 is (sym was.1 ∙ folder)
+          by built rest k is folder (inr differs) = let was =
+              some_cut path d later at (built_in built ++ 47 ∷ rest) differs k in are.no_folder built rest was.0 is (sym was.1 ∙ folder)
 
       -- ---- a folder that a restore builds
 
@@ -224,11 +244,13 @@ module _ (dir : List ℕ) (name : FileName) (named : is_folder_name dir ≡ true
           lacks = λ k. ⊎_elim
               (λ old. subst (LacksCurrent start folder) (sym old.1) (is.lacks old.0))
               (λ same. inr (same (path_in folder Current) (outside folder (spelled Current) other)
-              ∙ is.only (spelled Current) (All-weaker IsPartName (λ (n : FileName). spelled Current ≢ spelled n) current_apart names is.own)))
+              ∙ is.only (spelled Current) (All-weaker IsPartName
+              (λ (n : FileName). spelled Current ≢ spelled n) current_apart names is.own)))
               (at.cuts k);
         }
 
-        part_at : (file : FileName) (id : ℕ) (f : FileState) → IsFileNow d (path_in folder file) id f → IsFileNow later (path_in folder file) id f
+        part_at : (file : FileName) (id : ℕ) (f : FileState) → IsFileNow d (path_in folder file) id f
+            → IsFileNow later (path_in folder file) id f
         part_at file id f is = at.files (path_in folder file) id f (outside folder (spelled file) other) is
 
         sealed_at : (part : Part) → IsSealed start folder d part → IsSealed start folder later part
@@ -238,11 +260,13 @@ module _ (dir : List ℕ) (name : FileName) (named : is_folder_name dir ≡ true
         unfolding sealed_at
         beside_at id part is = (sealed_at part is.0, is.1)
 
-      begun_at : (start : State) (begun : Begun) (parts : List Part) (hand : Option FileName) → begun.folder ≢ dir → HasBegun start begun parts hand d → HasBegun start begun parts hand later
+      begun_at : (start : State) (begun : Begun) (parts : List Part) (hand : Option FileName) → begun.folder ≢ dir
+          → HasBegun start begun parts hand d → HasBegun start begun parts hand later
       begun_at start begun parts None other is = record {
         names = is.names;
         holds = names_at start begun.folder other begun.names is.holds;
-        each = All-weaker (IsSealed start begun.folder d) (IsSealed start begun.folder later) (sealed_at start begun.folder other) parts is.each;
+        each = All-weaker (IsSealed start begun.folder d) (IsSealed start begun.folder later)
+            (sealed_at start begun.folder other) parts is.each;
       }
       begun_at start begun parts (Some file) other is = (
         is.0,
@@ -252,11 +276,13 @@ module _ (dir : List ℕ) (name : FileName) (named : is_folder_name dir ≡ true
           id = is.1.id;
           later = is.1.later;
           hand = part_at start begun.folder other file is.1.id is.0 is.1.hand;
-          each = All-weaker (IsSealedBeside start begun.folder d is.1.id) (IsSealedBeside start begun.folder later is.1.id) (beside_at start begun.folder other is.1.id) parts is.1.each;
+          each = All-weaker (IsSealedBeside start begun.folder d is.1.id) (IsSealedBeside start begun.folder later is.1.id)
+              (beside_at start begun.folder other is.1.id) parts is.1.each;
         },
       )
 
-      pub restored_at : (begun : Option Begun) (hand : Option FileName) → RestoreBuilds d dir begun hand → RestoreBuilds later dir begun hand
+      pub restored_at : (begun : Option Begun) (hand : Option FileName) → RestoreBuilds d dir begun hand
+          → RestoreBuilds later dir begun hand
       restored_at None hand is = is
       restored_at (Some begun) hand is = record {
         named = is.named;
@@ -275,13 +301,15 @@ module _ (dir : List ℕ) (name : FileName) (named : is_folder_name dir ≡ true
         -- where it is linked, the store's file isn't this one
         abbrev IsLinkApart : PinnedFile → Type 0
         IsLinkApart file =
-            bytes_at (tree_now d) (path_in built file.name) ≡ Some file.bytes → file_at d (path_in built file.name) ≡ file_at d (path_in dir file.name)
+            bytes_at (tree_now d) (path_in built file.name) ≡ Some file.bytes
+            → file_at d (path_in built file.name) ≡ file_at d (path_in dir file.name)
             → path_in dir file.name ≢ path
 
         not_inside : (file : PinnedFile) → path_in built file.name ≢ path
         not_inside file = outside built (spelled file.name) (not_built dir job.dir named)
 
-        copy_bytes : (file : PinnedFile) (bytes : List ℕ) → bytes_at (tree_now d) (path_in built file.name) ≡ Some bytes → bytes_at (tree_now later) (path_in built file.name) ≡ Some bytes
+        copy_bytes : (file : PinnedFile) (bytes : List ℕ) → bytes_at (tree_now d) (path_in built file.name) ≡ Some bytes
+            → bytes_at (tree_now later) (path_in built file.name) ≡ Some bytes
         copy_bytes file bytes has = bytes_stay path d later at (path_in built file.name) (not_inside file) bytes has
 
         -- a link to one of the store's files is no link to this one, which has no other name
@@ -292,7 +320,8 @@ module _ (dir : List ℕ) (name : FileName) (named : is_folder_name dir ≡ true
             only_now d path (path_in built file.name) found.0 alone (ap (file_at d) (sym same) ∙ sym link ∙ leads) leads)
 
         link_at : (file : PinnedFile) → IsLinkApart file → bytes_at (tree_now d) (path_in built file.name) ≡ Some file.bytes
-            → file_at d (path_in built file.name) ≡ file_at d (path_in dir file.name) → file_at later (path_in built file.name) ≡ file_at later (path_in dir file.name)
+            → file_at d (path_in built file.name) ≡ file_at d (path_in dir file.name)
+            → file_at later (path_in built file.name) ≡ file_at later (path_in dir file.name)
         link_at file apart has link =
             file_stays path d later at (path_in built file.name) (not_inside file) ∙ link
             ∙ sym (file_stays path d later at (path_in dir file.name) (apart has link))
@@ -315,21 +344,27 @@ module _ (dir : List ℕ) (name : FileName) (named : is_folder_name dir ≡ true
           left = is.left;
           unmade = is.unmade;
           folder = at.now built (not_folder built is.folder) ∙ is.folder;
-          whole = λ k default within. copy_at _ (All-take IsLinkApart (length all - job.left) all apart k default within) (is.whole k default within);
+          whole = λ k default within. copy_at _ (All-take IsLinkApart (length all - job.left) all apart k default within)
+              (is.whole k default within);
           hand = All-weaker (HasFront d built job.copied) (HasFront later built job.copied) front_at (begun_files job all) is.hand;
-          absent = All-weaker (IsAbsent d built) (IsAbsent later built) (λ file free. at.now (path_in built file.name) (not_inside file) ∙ free) (absent_files job all) is.absent;
-          only = λ file is_file there. is.only file is_file (ap is_some (sym (at.now (path_in built file) (outside built (spelled file) (not_built dir job.dir named)))) ∙ there);
+          absent = All-weaker (IsAbsent d built) (IsAbsent later built)
+              (λ file free. at.now (path_in built file.name) (not_inside file) ∙ free) (absent_files job all) is.absent;
+          only = λ file is_file there. is.only file is_file (ap is_some
+              (sym (at.now (path_in built file) (outside built (spelled file) (not_built dir job.dir named)))) ∙ there);
         }
 
-      builds_at : (job : Option Job) (pin : Pin) → ((of : Job) → All (IsLinkApart of) pin.files) → BuildsJob d dir job pin → BuildsJob later dir job pin
+      builds_at : (job : Option Job) (pin : Pin) → ((of : Job) → All (IsLinkApart of) pin.files) → BuildsJob d dir job pin
+          → BuildsJob later dir job pin
       builds_at None pin apart is = tt
       builds_at (Some job) pin apart is = job_at job pin.files (apart job) is
 
       -- where the file has no other name
-      pub jobs_at : IsAlone d (path_in dir name) → (kept : List KeptPin) (s : model.State) → JobsBuild d dir kept s → JobsBuild later dir kept s
+      pub jobs_at : IsAlone d (path_in dir name) → (kept : List KeptPin) (s : model.State) → JobsBuild d dir kept s
+          → JobsBuild later dir kept s
       jobs_at alone kept s is = record {
         apart = is.apart;
-        each = pins_fit (λ (k : KeptPin) (pin : Pin). BuildsJob d dir k.job pin) (λ (k : KeptPin) (pin : Pin). BuildsJob later dir k.job pin)
+        each = pins_fit (λ (k : KeptPin) (pin : Pin). BuildsJob d dir k.job pin)
+            (λ (k : KeptPin) (pin : Pin). BuildsJob later dir k.job pin)
             (λ k pin builds. builds_at k.job pin (λ job n default within. alone_apart job alone _) builds) kept s.pins is.each;
       }
 
@@ -337,10 +372,12 @@ module _ (dir : List ℕ) (name : FileName) (named : is_folder_name dir ≡ true
       abbrev IsNoFileOf : KeptPin → Pin → Type 0
       IsNoFileOf kept pin = All (λ (file : PinnedFile). path_in dir file.name ≢ path) pin.files
 
-      pub jobs_beside : (kept : List KeptPin) (s : model.State) → ArePins IsNoFileOf kept s.pins → JobsBuild d dir kept s → JobsBuild later dir kept s
+      pub jobs_beside : (kept : List KeptPin) (s : model.State) → ArePins IsNoFileOf kept s.pins → JobsBuild d dir kept s
+          → JobsBuild later dir kept s
       jobs_beside kept s none is = record {
         apart = is.apart;
-        each = pins_fit (λ (k : KeptPin) (pin : Pin). IsNoFileOf k pin × BuildsJob d dir k.job pin) (λ (k : KeptPin) (pin : Pin). BuildsJob later dir k.job pin)
+        each = pins_fit (λ (k : KeptPin) (pin : Pin). IsNoFileOf k pin × BuildsJob d dir k.job pin)
+            (λ (k : KeptPin) (pin : Pin). BuildsJob later dir k.job pin)
             (λ k pin both. builds_at k.job pin (λ job n default within has link. both.0 n default within) both.1) kept s.pins
             (pins_both IsNoFileOf (λ (k : KeptPin) (pin : Pin). BuildsJob d dir k.job pin) kept s.pins none is.each);
       }

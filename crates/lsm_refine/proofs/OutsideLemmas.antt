@@ -33,17 +33,20 @@ use Rattle.lsm_names.proofs.FolderLemmas.{folder_has_bytes}
 
 -- ---- folders with the same files read alike
 
-module _ (t u : Tree) (name : List ℕ) (some : 1 ≤ length name) (items : (file : FileName) → IsFileName file → item_at u (path_in name file) ≡ item_at t (path_in name file)) where
+module _ (t u : Tree) (name : List ℕ) (some : 1 ≤ length name)
+    (items : (file : FileName) → IsFileName file → item_at u (path_in name file) ≡ item_at t (path_in name file)) where
   at_name : (file : FileName) → IsFileName file → finmap.get (files_in name u) file ≡ finmap.get (files_in name t) file
   at_name file fits = files_are name u file some fits ∙ items file fits ∙ sym (files_are name t file some fits)
 
-  by_items : (file : FileName) (new old : Option Item) → finmap.get (files_in name u) file ≡ new → finmap.get (files_in name t) file ≡ old → finmap.get (files_in name u) file ≡ finmap.get (files_in name t) file
+  by_items : (file : FileName) (new old : Option Item) → finmap.get (files_in name u) file ≡ new
+      → finmap.get (files_in name t) file ≡ old → finmap.get (files_in name u) file ≡ finmap.get (files_in name t) file
   by_items file (Some item) old is was = at_name file (file_names name u file item some is)
   by_items file None (Some item) is was = at_name file (file_names name t file item some was)
   by_items file None None is was = is ∙ sym was
 
   pub files_same : files_in name u ≡ files_in name t
-  files_same = finmap.same_map names_total names_exact (files_in name u) (files_in name t) (λ file. by_items file (finmap.get (files_in name u) file) (finmap.get (files_in name t) file) refl refl)
+  files_same = finmap.same_map names_total names_exact (files_in name u) (files_in name t)
+      (λ file. by_items file (finmap.get (files_in name u) file) (finmap.get (files_in name t) file) refl refl)
 
   reading_same : finmap.get u.names name ≡ finmap.get t.names name → folder_reading name u ≡ folder_reading name t
   unfolding folder_reading place_of
@@ -55,14 +58,17 @@ module _ (t u : Tree) (name : List ℕ) (some : 1 ≤ length name) (items : (fil
 
 -- ---- so the other folders read as they did
 
-module _ (own : List ℕ) (t u : Tree) (alike : AreAlikeOutside own t u) (name : List ℕ) (fits : is_folder_name name ≡ true) (other : name ≢ own) where
+module _ (own : List ℕ) (t u : Tree) (alike : AreAlikeOutside own t u) (name : List ℕ) (fits : is_folder_name name ≡ true)
+    (other : name ≢ own) where
   pub outside_reading : folder_reading name u ≡ folder_reading name t
-  outside_reading = reading_same t u name (folder_has_bytes name fits) (λ file is. alike.items name file fits other is) (alike.names name fits other)
+  outside_reading = reading_same t u name (folder_has_bytes name fits) (λ file is. alike.items name file fits other is)
+      (alike.names name fits other)
 
   pub outside_there : is_some (finmap.get u.names name) ≡ is_some (finmap.get t.names name)
   outside_there = ap is_some (alike.names name fits other)
 
-pub folders_alike : (own : List ℕ) (folders : List FolderRead) (t u : Tree) → AreAlikeOutside own t u → FoldersAre own folders t → FoldersAre own folders u
+pub folders_alike : (own : List ℕ) (folders : List FolderRead) (t u : Tree) → AreAlikeOutside own t u
+    → FoldersAre own folders t → FoldersAre own folders u
 folders_alike own folders t u alike are = record {
   only = are.only;
   reads = λ name fits other. outside_reading own t u alike name fits other ∙ are.reads name fits other;
@@ -87,7 +93,8 @@ module _ (d later : disk.State) (s : State) (changes : ChangesInside s.own d lat
 -- paths of files lead back to their folders
 pub same_folder : (one two : List ℕ) (a b : FileName) → IsFileName a → IsFileName b → path_in one a ≡ path_in two b → one ≡ two
 same_folder one two a b first second same =
-    sym (parent_of_joined one (spelled a) (spelled_is_component a first)) ∙ ap parent_of same ∙ parent_of_joined two (spelled b) (spelled_is_component b second)
+    sym (parent_of_joined one (spelled a) (spelled_is_component a first)) ∙ ap parent_of same ∙ parent_of_joined two
+    (spelled b) (spelled_is_component b second)
 
 -- a cut of files of which one was longer is, but for that one, a cut of the files before
 cuts_before : (more : List ℕ) (fs : List FileState) (id : ℕ) (bs : List (List ℕ)) → AreCut (in_file (longer more) id fs) bs
@@ -105,22 +112,27 @@ cuts_before more (f ∷ fs) (suc id) (b ∷ bs) cut =
     let rest = cuts_before more fs id bs cut.1 in
     (b ∷ rest.0, (cut.0, rest.1), but_later rest.0 rest.2)
   where
-    but_later : (cs : List (List ℕ)) → ((k : ℕ) → k ≢ id → slice_get bs k ≡ slice_get cs k) → (k : ℕ) → k ≢ suc id → slice_get (b ∷ bs) k ≡ slice_get (b ∷ cs) k
+    but_later : (cs : List (List ℕ)) → ((k : ℕ) → k ≢ id → slice_get bs k ≡ slice_get cs k) → (k : ℕ) → k ≢ suc id
+        → slice_get (b ∷ bs) k ≡ slice_get (b ∷ cs) k
     but_later cs same zero other = refl
     but_later cs same (suc k) other = same k (λ is. other (ap suc is))
 
 -- an item whose file has the same bytes
-same_item : (bs cs : List (List ℕ)) (id : ℕ) (node : Option Node) → (node ≢ Some (File_node id)) → ((k : ℕ) → k ≢ id → slice_get bs k ≡ slice_get cs k) → option_map (item_of bs) node ≡ option_map (item_of cs) node
+same_item : (bs cs : List (List ℕ)) (id : ℕ) (node : Option Node) → (node ≢ Some (File_node id))
+    → ((k : ℕ) → k ≢ id → slice_get bs k ≡ slice_get cs k) → option_map (item_of bs) node ≡ option_map (item_of cs) node
 same_item bs cs id None other same = refl
 same_item bs cs id (Some Folder_node) other same = refl
-same_item bs cs id (Some (File_node k)) other same = ap (λ (o : Option (List ℕ)). Some (A_file (unwrap_or o []))) (same k (λ is. other (ap (λ (n : ℕ). Some (File_node n)) is)))
+same_item bs cs id (Some (File_node k)) other same = ap (λ (o : Option (List ℕ)). Some (A_file (unwrap_or o [])))
+    (same k (λ is. other (ap (λ (n : ℕ). Some (File_node n)) is)))
 
 module _ (d : disk.State) (own : List ℕ) (id : ℕ) (more : List ℕ)
-    (elsewhere : (k : ℕ) (name : List ℕ) (n : FileName) → is_folder_name name ≡ true → name ≢ own → IsFileName n → finmap.get (all_named (take k d.pending) d.durable) (path_in name n) ≢ Some (File_node id)) where
+    (elsewhere : (k : ℕ) (name : List ℕ) (n : FileName) → is_folder_name name ≡ true → name ≢ own → IsFileName n
+    → finmap.get (all_named (take k d.pending) d.durable) (path_in name n) ≢ Some (File_node id)) where
   abbrev later : disk.State
   later = after d (Appended id more)
 
-  alike_by : (k : ℕ) (names : Names) (bs cs : List (List ℕ)) → names ≡ all_named (take k d.pending) d.durable → ((n : ℕ) → n ≢ id → slice_get bs n ≡ slice_get cs n)
+  alike_by : (k : ℕ) (names : Names) (bs cs : List (List ℕ)) → names ≡ all_named (take k d.pending) d.durable
+      → ((n : ℕ) → n ≢ id → slice_get bs n ≡ slice_get cs n)
       → AreAlikeOutside own (record { names = names; contents = cs }) (record { names = names; contents = bs })
   alike_by k names bs cs is same = record {
     names = λ name ok other. refl;
@@ -130,9 +142,17 @@ module _ (d : disk.State) (own : List ℕ) (id : ℕ) (more : List ℕ)
 
   pub append_inside : ChangesInside own d later
   append_inside = record {
-    now = alike_by (reads_image d).kept (names_now d) (contents_of later.files) (contents_of d.files) (reads_image d).names (λ k other. contents_other (longer more) d.files k id other);
-    images = λ u i. let old = cuts_before more d.files id u.contents i.files in
-        (record { names = u.names; contents = old.0 }, record { kept = i.kept; names = i.names; files = old.1 }, alike_by i.kept u.names u.contents old.0 i.names old.2);
+    now = alike_by (reads_image d).kept (names_now d) (contents_of later.files) (contents_of d.files) (reads_image d).names
+        (λ k other. contents_other (longer more) d.files k id other);
+    images = λ u i. let old = cuts_before more d.files id u.contents i.files in (
+      record { names = u.names; contents = old.0 },
+      record {
+        kept = i.kept;
+        names = i.names;
+        files = old.1;
+      },
+      alike_by i.kept u.names u.contents old.0 i.names old.2,
+    );
   }
 
 -- ---- any change
@@ -141,7 +161,8 @@ alike_itself : (own : List ℕ) (t : Tree) → AreAlikeOutside own t t
 alike_itself own t = record { names = λ name fits other. refl; items = λ name file fits other is. refl }
 
 -- names that are spared, with the same bytes
-alike_named : (own : List ℕ) (c : Change) (spares : SparesOutside own c) (before after_it : Names) (bs : List (List ℕ)) → ((path : List ℕ) → SparesName path c → finmap.get after_it path ≡ finmap.get before path)
+alike_named : (own : List ℕ) (c : Change) (spares : SparesOutside own c) (before after_it : Names) (bs : List (List ℕ))
+    → ((path : List ℕ) → SparesName path c → finmap.get after_it path ≡ finmap.get before path)
     → AreAlikeOutside own (record { names = before; contents = bs }) (record { names = after_it; contents = bs })
 alike_named own c spares before after_it bs same = record {
   names = λ name fits other. same name (spares.names name fits other);
@@ -160,11 +181,13 @@ new_item bs None = refl
 new_item bs (Some Folder_node) = refl
 new_item bs (Some (File_node id)) = ap (λ (b : List ℕ). Some (A_file b)) (new_bytes bs id)
 
-alike_created : (own : List ℕ) (c : Change) (spares : SparesOutside own c) (before after_it : Names) (bs : List (List ℕ)) → ((path : List ℕ) → SparesName path c → finmap.get after_it path ≡ finmap.get before path)
+alike_created : (own : List ℕ) (c : Change) (spares : SparesOutside own c) (before after_it : Names) (bs : List (List ℕ))
+    → ((path : List ℕ) → SparesName path c → finmap.get after_it path ≡ finmap.get before path)
     → AreAlikeOutside own (record { names = before; contents = bs }) (record { names = after_it; contents = bs ++ [] ∷ [] })
 alike_created own c spares before after_it bs same = record {
   names = λ name fits other. same name (spares.names name fits other);
-  items = λ name file fits other is. new_item bs (finmap.get after_it (path_in name file)) ∙ ap (option_map (item_of bs)) (same (path_in name file) (spares.files name file fits other is));
+  items = λ name file fits other is. new_item bs (finmap.get after_it (path_in name file)) ∙ ap (option_map (item_of bs))
+      (same (path_in name file) (spares.files name file fits other is));
 }
 
 pub sure_contents : (fs : List FileState) (id : ℕ) → contents_of (in_file sure id fs) ≡ contents_of fs
@@ -179,14 +202,16 @@ new_contents (f ∷ fs) = ap (λ (bs : List (List ℕ)). bytes_of f ∷ bs) (new
 module _ (own : List ℕ) (d : disk.State) where
   named_inside : (op : NameOp) → SparesOutside own (Named op) → ChangesInside own d (after d (Named op))
   named_inside op spares = record {
-    now = subst (λ (names : Names). AreAlikeOutside own (tree_now d) (record { names = names; contents = contents_of d.files })) (sym (names_after d op))
+    now = subst (λ (names : Names). AreAlikeOutside own (tree_now d)
+        (record { names = names; contents = contents_of d.files })) (sym (names_after d op))
         (alike_named own (Named op) spares (names_now d) (named op (names_now d)) (contents_of d.files) same);
     images = λ u i. ⊎_elim
         (λ before. (u, before, alike_itself own u))
         (λ shown. (
           record { names = names_now d; contents = u.contents },
           record { kept = (reads_image d).kept; names = (reads_image d).names; files = shown.cut },
-          subst (λ (names : Names). AreAlikeOutside own (record { names = names_now d; contents = u.contents }) (record { names = names; contents = u.contents })) (sym shown.names)
+          subst (λ (names : Names). AreAlikeOutside own (record { names = names_now d; contents = u.contents })
+              (record { names = names; contents = u.contents })) (sym shown.names)
               (alike_named own (Named op) spares (names_now d) (named op (names_now d)) u.contents same),
         ))
         (named_image d op u i);
@@ -200,8 +225,10 @@ module _ (own : List ℕ) (d : disk.State) where
 
   created_inside : (path : List ℕ) → SparesOutside own (Created path) → ChangesInside own d (after d (Created path))
   created_inside path spares = record {
-    now = subst (λ (bs : List (List ℕ)). AreAlikeOutside own (tree_now d) (record { names = names_now (after d (Created path)); contents = bs })) (sym (new_contents d.files))
-        (subst (λ (names : Names). AreAlikeOutside own (tree_now d) (record { names = names; contents = contents_of d.files ++ [] ∷ [] })) (sym (all_push d.pending (putting path) d.durable))
+    now = subst (λ (bs : List (List ℕ)). AreAlikeOutside own (tree_now d)
+        (record { names = names_now (after d (Created path)); contents = bs })) (sym (new_contents d.files))
+        (subst (λ (names : Names). AreAlikeOutside own (tree_now d)
+        (record { names = names; contents = contents_of d.files ++ [] ∷ [] })) (sym (all_push d.pending (putting path) d.durable))
         (alike_created own (Created path) spares (names_now d) (named (putting path) (names_now d)) (contents_of d.files) same));
     images = λ u i. in_image u (created_image d path u i);
   }
@@ -215,17 +242,21 @@ module _ (own : List ℕ) (d : disk.State) where
         new.was,
         subst (λ (bs : List (List ℕ)). AreAlikeOutside own new.before (record { names = u.names; contents = bs })) (sym new.contents)
             (⊎_elim
-            (λ old. subst (λ (names : Names). AreAlikeOutside own new.before (record { names = names; contents = new.before.contents ++ [] ∷ [] })) (sym old)
+            (λ old. subst (λ (names : Names). AreAlikeOutside own new.before
+            (record { names = names; contents = new.before.contents ++ [] ∷ [] })) (sym old)
             (alike_created own (Created path) spares new.before.names new.before.names new.before.contents (λ other differs. refl)))
-            (λ made. subst (λ (names : Names). AreAlikeOutside own new.before (record { names = names; contents = new.before.contents ++ [] ∷ [] })) (sym made.1)
-            (subst (λ (names : Names). AreAlikeOutside own (record { names = names; contents = new.before.contents }) (record { names = named (putting path) (names_now d); contents = new.before.contents ++ [] ∷ [] })) (sym made.0)
+            (λ made. subst (λ (names : Names). AreAlikeOutside own new.before
+            (record { names = names; contents = new.before.contents ++ [] ∷ [] })) (sym made.1)
+            (subst (λ (names : Names). AreAlikeOutside own (record { names = names; contents = new.before.contents })
+            (record { names = named (putting path) (names_now d); contents = new.before.contents ++ [] ∷ [] })) (sym made.0)
             (alike_created own (Created path) spares (names_now d) (named (putting path) (names_now d)) new.before.contents same)))
             new.names),
       )
 
   synced_inside : (id : ℕ) → ChangesInside own d (after d (Synced id))
   synced_inside id = record {
-    now = subst (λ (bs : List (List ℕ)). AreAlikeOutside own (tree_now d) (record { names = names_now d; contents = bs })) (sym (sure_contents d.files id)) (alike_itself own (tree_now d));
+    now = subst (λ (bs : List (List ℕ)). AreAlikeOutside own (tree_now d) (record { names = names_now d; contents = bs }))
+        (sym (sure_contents d.files id)) (alike_itself own (tree_now d));
     images = λ u i. (u, synced_image d id u i, alike_itself own u);
   }
 
@@ -233,17 +264,23 @@ module _ (own : List ℕ) (d : disk.State) where
   change_inside (Created path) spares inside = created_inside path spares
   change_inside (Named op) spares inside = named_inside op spares
   change_inside (Appended id more) spares inside = append_inside d own id more
-      (λ k name n ok other is leads. other (same_folder name own n inside.0 is inside.1 (inside.3.only id k (path_in name n) inside.2 leads)))
+      (λ k name n ok other is leads. other (same_folder name own n inside.0 is inside.1
+      (inside.3.only id k (path_in name n) inside.2 leads)))
   change_inside (Synced id) spares inside = synced_inside id
-  change_inside Names_synced spares inside = record { now = alike_itself own (tree_now d); images = λ u i. (u, names_synced_image d u i, alike_itself own u) }
+  change_inside Names_synced spares inside = record {
+    now = alike_itself own (tree_now d);
+    images = λ u i. (u, names_synced_image d u i, alike_itself own u);
+  }
   change_inside Idle spares inside = record { now = alike_itself own (tree_now d); images = λ u i. (u, i, alike_itself own u) }
 
 -- ---- one change after another
 
-pub inside_both : (own : List ℕ) (d mid later : disk.State) → ChangesInside own d mid → ChangesInside own mid later → ChangesInside own d later
+pub inside_both : (own : List ℕ) (d mid later : disk.State) → ChangesInside own d mid → ChangesInside own mid later
+    → ChangesInside own d later
 inside_both own d mid later first second = record {
   now = alike_both (tree_now d) (tree_now mid) (tree_now later) first.now second.now;
-  images = λ u i. let next = second.images u i in let before = first.images next.0 next.1 in (before.0, before.1, alike_both before.0 next.0 u before.2 next.2);
+  images = λ u i. let next = second.images u i in let before =
+      first.images next.0 next.1 in (before.0, before.1, alike_both before.0 next.0 u before.2 next.2);
 }
   where
     alike_both : (t m u : Tree) → AreAlikeOutside own t m → AreAlikeOutside own m u → AreAlikeOutside own t u
@@ -255,18 +292,22 @@ inside_both own d mid later first second = record {
 -- ---- a name of a file in the own folder
 
 -- a folder's name is no path of a file
-no_path : (name own : List ℕ) (file : FileName) → is_folder_name name ≡ true → is_folder_name own ≡ true → IsFileName file → name ≢ path_in own file
+no_path : (name own : List ℕ) (file : FileName) → is_folder_name name ≡ true → is_folder_name own ≡ true → IsFileName file
+    → name ≢ path_in own file
 no_path name own file fits named is same =
-    let root : own ≡ [] = sym (parent_of_joined own (spelled file) (spelled_is_component file is)) ∙ ap parent_of (sym same) ∙ in_root name fits in
+    let root : own ≡ [] = sym (parent_of_joined own (spelled file) (spelled_is_component file is)) ∙ ap parent_of
+    (sym same) ∙ in_root name fits in
     omega (arith, folder_has_bytes own named, ap (λ (p : List ℕ). length p) root)
 
-pub created_spares : (own : List ℕ) (file : FileName) → is_folder_name own ≡ true → IsFileName file → SparesOutside own (Created (path_in own file))
+pub created_spares : (own : List ℕ) (file : FileName) → is_folder_name own ≡ true → IsFileName file
+    → SparesOutside own (Created (path_in own file))
 created_spares own file named is = record {
   names = λ name fits other. no_path name own file fits named is;
   files = λ name n fits other ok same. other (same_folder name own n file ok is same);
 }
 
-pub gone_spares : (own : List ℕ) (file : FileName) → is_folder_name own ≡ true → IsFileName file → SparesOutside own (Named (Gone (path_in own file)))
+pub gone_spares : (own : List ℕ) (file : FileName) → is_folder_name own ≡ true → IsFileName file
+    → SparesOutside own (Named (Gone (path_in own file)))
 gone_spares own file named is = record {
   names = λ name fits other. no_path name own file fits named is;
   files = λ name n fits other ok same. other (same_folder name own n file ok is same);

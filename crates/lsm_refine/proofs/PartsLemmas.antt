@@ -41,8 +41,11 @@ use Rattle.lsm_names.proofs.FolderLemmas.{folder_has_bytes}
 use Rattle.lsm_wal.proofs.Once.{taken_few}
 
 -- the text of a log that is synced as a whole
-synced_text : (d : State) (path : List ℕ) (first : ℕ) (batches : List (List Op)) → IsWal d path (in_sequence first batches) (length batches) → (t : Tree) → IsImage d t → bytes_at t path ≡ Some (wal_text (in_sequence first batches))
-synced_text d path first batches wal t i = synced_image d path (in_sequence first batches) (subst (IsWal d path (in_sequence first batches)) (sym (sequence_length first batches)) wal) t i
+synced_text : (d : State) (path : List ℕ) (first : ℕ) (batches : List (List Op))
+    → IsWal d path (in_sequence first batches) (length batches) → (t : Tree) → IsImage d t
+    → bytes_at t path ≡ Some (wal_text (in_sequence first batches))
+synced_text d path first batches wal t i = synced_image d path (in_sequence first batches)
+    (subst (IsWal d path (in_sequence first batches)) (sym (sequence_length first batches)) wal) t i
 
 -- the numbers of these logs are those of files
 abbrev AreNumbered : List ℕ → Type 0
@@ -66,7 +69,8 @@ readable d dir kept parts sane = record {
 }
 
 -- also while another file than its manifest is written
-pub readable_beside : (d : State) (dir : List ℕ) (kept : Kept) (parts : Parts) (name : FileName) → SaneBeside d dir kept parts name → name ≢ Manifest kept.manifest → IsReadable d dir kept parts
+pub readable_beside : (d : State) (dir : List ℕ) (kept : Kept) (parts : Parts) (name : FileName)
+    → SaneBeside d dir kept parts name → name ≢ Manifest kept.manifest → IsReadable d dir kept parts
 readable_beside d dir kept parts name sane other = record {
   current = sane.current;
   edits = sane.edits other;
@@ -86,17 +90,22 @@ module _ (d : State) (dir : List ℕ) (kept : Kept) (parts : Parts) (reads : IsR
   abbrev IsThere : ℕ → List ℕ → Type 0
   IsThere number bytes = file_at files (Log number) ≡ Some bytes
 
-  older_there : (first : ℕ) (older : List LogPart) (last : ℕ × List ℕ) → AreSynced d dir first older → AreNumbered (numbers_in (texts_from first older ++ last ∷ [])) → IsThere last.0 last.1
+  older_there : (first : ℕ) (older : List LogPart) (last : ℕ × List ℕ) → AreSynced d dir first older
+      → AreNumbered (numbers_in (texts_from first older ++ last ∷ [])) → IsThere last.0 last.1
       → All (λ (e : ℕ × List ℕ). IsThere e.0 e.1) (texts_from first older ++ last ∷ [])
-  older_there first [] last synced numbered there = All-cons (λ (e : ℕ × List ℕ). IsThere e.0 e.1) last [] there (All-nil (λ (e : ℕ × List ℕ). IsThere e.0 e.1))
+  older_there first [] last synced numbered there = All-cons (λ (e : ℕ × List ℕ). IsThere e.0 e.1) last [] there
+      (All-nil (λ (e : ℕ × List ℕ). IsThere e.0 e.1))
   older_there first (log ∷ older) last synced numbered there =
       let rest : List (ℕ × List ℕ) = texts_from (sequence_after first log.batches) older ++ last ∷ [] in
       All-cons (λ (e : ℕ × List ℕ). IsThere e.0 e.1) (log.number, wal_text (in_sequence first log.batches)) rest
-      (file_there dir t (Log log.number) (wal_text (in_sequence first log.batches)) named (All-head (λ (n : ℕ). IsFileName (Log n)) log.number (numbers_in rest) numbered)
+      (file_there dir t (Log log.number) (wal_text (in_sequence first log.batches)) named
+      (All-head (λ (n : ℕ). IsFileName (Log n)) log.number (numbers_in rest) numbered)
       (synced_text d (path_in dir (Log log.number)) first log.batches synced.0 t i))
-      (older_there (sequence_after first log.batches) older last synced.1 (All-tail (λ (n : ℕ). IsFileName (Log n)) log.number (numbers_in rest) numbered) there)
+      (older_there (sequence_after first log.batches) older last synced.1
+      (All-tail (λ (n : ℕ). IsFileName (Log n)) log.number (numbers_in rest) numbered) there)
 
-  module _ (text : List ℕ) (read : List (List Op)) (there : bytes_at t (path_in dir (Log parts.last.number)) ≡ Some text) (is_log : IsLog true (first_in_last parts) text read) where
+  module _ (text : List ℕ) (read : List (List Op)) (there : bytes_at t (path_in dir (Log parts.last.number)) ≡ Some text)
+      (is_log : IsLog true (first_in_last parts) text read) where
     abbrev es : List (ℕ × List ℕ)
     es = texts_with parts text
 
@@ -112,25 +121,31 @@ module _ (d : State) (dir : List ℕ) (kept : Kept) (parts : Parts) (reads : IsR
     last_numbered : IsFileName (Log parts.last.number)
     last_numbered = by_push (texts_from (first_logged parts) parts.older) numbered
       where
-        by_push : (front : List (ℕ × List ℕ)) → AreNumbered (numbers_in (front ++ (parts.last.number, text) ∷ [])) → IsFileName (Log parts.last.number)
+        by_push : (front : List (ℕ × List ℕ)) → AreNumbered (numbers_in (front ++ (parts.last.number, text) ∷ []))
+            → IsFileName (Log parts.last.number)
         by_push [] each = All-head (λ (n : ℕ). IsFileName (Log n)) parts.last.number [] each
-        by_push (e ∷ front) each = by_push front (All-tail (λ (n : ℕ). IsFileName (Log n)) e.0 (numbers_in (front ++ (parts.last.number, text) ∷ [])) each)
+        by_push (e ∷ front) each = by_push front (All-tail (λ (n : ℕ). IsFileName (Log n)) e.0
+            (numbers_in (front ++ (parts.last.number, text) ∷ [])) each)
 
     all_there : All (λ (e : ℕ × List ℕ). IsThere e.0 e.1) es
-    all_there = older_there (first_logged parts) parts.older (parts.last.number, text) reads.logs.older numbered (file_there dir t (Log parts.last.number) text named last_numbered there)
+    all_there = older_there (first_logged parts) parts.older (parts.last.number, text) reads.logs.older numbered
+        (file_there dir t (Log parts.last.number) text named last_numbered there)
 
     entries_are : finmap.entries (logs_with parts text) ≡ es
-    entries_are = same_entries nat_cmp nat_cmp_total es (sorted_by es (subst (IsStrictlySortedBy nat_cmp) numbers reads.logs.ascend)) finmap.nat_cmp-IsAntisymmetric
+    entries_are = same_entries nat_cmp nat_cmp_total es (sorted_by es
+        (subst (IsStrictlySortedBy nat_cmp) numbers reads.logs.ascend)) finmap.nat_cmp-IsAntisymmetric
 
     found_is : (number : ℕ) → finmap.get (logs_with parts text) number ≡ finmap.find nat_cmp number es
     found_is number = finmap.get-from_entries nat_cmp_total es number
 
     -- a log that isn't live isn't there
-    gone : (number : ℕ) → kept.log ≤ number → IsFileName (Log number) → finmap.find nat_cmp number es ≡ None → file_at files (Log number) ≡ None
+    gone : (number : ℕ) → kept.log ≤ number → IsFileName (Log number) → finmap.find nat_cmp number es ≡ None
+        → file_at files (Log number) ≡ None
     gone number least fits none =
         let path : List ℕ = path_in dir (Log number) in
         ⊎_elim
-        (λ among. absurd (All-contains (λ (n : ℕ). n ≢ number) kept.logs number (subst (All (λ (n : ℕ). n ≢ number)) (sym numbers) (not_among es number none)) among refl))
+        (λ among. absurd (All-contains (λ (n : ℕ). n ≢ number) kept.logs number
+        (subst (All (λ (n : ℕ). n ≢ number)) (sym numbers) (not_among es number none)) among refl))
         (λ free. file_gone dir t (Log number) named fits (ap id_of (quiet_image d path (reads.quiet number least fits) t i) ∙ free))
         (reads.logs.only number least fits)
 
@@ -147,24 +162,29 @@ module _ (d : State) (dir : List ℕ) (kept : Kept) (parts : Parts) (reads : IsR
 
     has_logs : reading.HasLogs files (log_after parts.edits) (logs_with parts text)
     has_logs = record {
-      there = λ number least. log_at number (subst (λ (n : ℕ). n ≤ number) (sym reads.edits.log) least) (finmap.find nat_cmp number es) refl ∙ sym (found_is number);
+      there = λ number least. log_at number (subst (λ (n : ℕ). n ≤ number) (sym reads.edits.log) least)
+          (finmap.find nat_cmp number es) refl ∙ sym (found_is number);
       live = λ number bytes is.
           subst (λ (n : ℕ). n ≤ number) reads.edits.log
           (found_has (λ (n : ℕ) (b : List ℕ). kept.log ≤ n) es number bytes (as_entries es live) (sym (found_is number) ∙ is));
     }
       where
-        as_entries : (some : List (ℕ × List ℕ)) → All (λ (n : ℕ). (kept.log ≤ n) × IsFileName (Log n)) (numbers_in some) → All (λ (e : ℕ × List ℕ). kept.log ≤ e.0) some
+        as_entries : (some : List (ℕ × List ℕ)) → All (λ (n : ℕ). (kept.log ≤ n) × IsFileName (Log n)) (numbers_in some)
+            → All (λ (e : ℕ × List ℕ). kept.log ≤ e.0) some
         as_entries [] each = All-nil (λ (e : ℕ × List ℕ). kept.log ≤ e.0)
         as_entries (e ∷ some) each =
-            All-cons (λ (x : ℕ × List ℕ). kept.log ≤ x.0) e some (All-head (λ (n : ℕ). (kept.log ≤ n) × IsFileName (Log n)) e.0 (numbers_in some) each).0
+            All-cons (λ (x : ℕ × List ℕ). kept.log ≤ x.0) e some
+            (All-head (λ (n : ℕ). (kept.log ≤ n) × IsFileName (Log n)) e.0 (numbers_in some) each).0
             (as_entries some (All-tail (λ (n : ℕ). (kept.log ≤ n) × IsFileName (Log n)) e.0 (numbers_in some) each))
 
-    table_there : (number : ℕ) (placed : Placed) → finmap.get (tables_after parts.edits) number ≡ Some placed → reading.HasTable files number placed (parts.rows number)
+    table_there : (number : ℕ) (placed : Placed) → finmap.get (tables_after parts.edits) number ≡ Some placed
+        → reading.HasTable files number placed (parts.rows number)
     table_there number placed is =
         let has = reads.tables.each number placed (ap (λ (tables : Tables). finmap.get tables number) reads.edits.version ∙ is) in
         record {
           bytes = has.bytes;
-          there = file_there dir t (Table number) has.bytes named has.numbered (whole_image d (path_in dir (Table number)) has.bytes has.file t i);
+          there = file_there dir t (Table number) has.bytes named has.numbered
+              (whole_image d (path_in dir (Table number)) has.bytes has.file t i);
           table = has.table;
           size = has.size;
         }
@@ -175,7 +195,8 @@ module _ (d : State) (dir : List ℕ) (kept : Kept) (parts : Parts) (reads : IsR
       numbered = reads.current.numbered;
       current = file_there dir t Current _ named tt (whole_image d (path_in dir Current) _ reads.current.file t i);
       text = reading.manifest_text parts.edits;
-      there = file_there dir t (Manifest kept.manifest) _ named reads.current.numbered (whole_image d (path_in dir (Manifest kept.manifest)) _ reads.edits.file t i);
+      there = file_there dir t (Manifest kept.manifest) _ named reads.current.numbered
+          (whole_image d (path_in dir (Manifest kept.manifest)) _ reads.edits.file t i);
       edits_are = manifest_written parts.edits reads.edits.are;
       tables = table_there;
       has_logs = has_logs;
@@ -193,34 +214,41 @@ module _ (d : State) (dir : List ℕ) (kept : Kept) (parts : Parts) (reads : IsR
       let front = image_reads (first_in_last parts) path batches least d t each held in
       let count : ℕ = front.front_of.count in
       let read : front.read ≡ take (length (take count batches)) batches = front.front_of.is ∙ sym (take_taken count batches) in
-      let log : IsLog true (first_in_last parts) held.bytes front.read = record { torn = front.torn; reading = front.reading; ends = last_may front.torn } in (
+      let log : IsLog true (first_in_last parts) held.bytes front.read =
+      record { torn = front.torn; reading = front.reading; ends = last_may front.torn } in (
         length (take count batches),
         held.bytes,
         taken_enough least count batches front.front_of.enough within,
         taken_few count batches,
-        has_parts held.bytes (take (length (take count batches)) batches) held.is (subst (IsLog true (first_in_last parts) held.bytes) read log),
+        has_parts held.bytes (take (length (take count batches)) batches) held.is
+            (subst (IsLog true (first_in_last parts) held.bytes) read log),
       )
 
-module _ (d : State) (dir : List ℕ) (kept : Kept) (parts : Parts) (reads : IsReadable d dir kept parts) (last : HasLast d dir parts parts.synced) where
+module _ (d : State) (dir : List ℕ) (kept : Kept) (parts : Parts) (reads : IsReadable d dir kept parts)
+    (last : HasLast d dir parts parts.synced) where
   -- in each image the last log has a front of its batches
   pub first_in : (t : Tree) → IsImage d t → HasFirst dir parts t
   first_in t i =
       let held = wal_image d (last_path dir parts) (last_batches parts) parts.synced last t i in
-      let within : parts.synced ≤ length parts.last.batches = subst (λ (n : ℕ). parts.synced ≤ n) (sequence_length (first_in_last parts) parts.last.batches) last.within in
+      let within : parts.synced ≤ length parts.last.batches =
+      subst (λ (n : ℕ). parts.synced ≤ n) (sequence_length (first_in_last parts) parts.last.batches) last.within in
       let first = first_of d dir kept parts reads t i parts.last.batches parts.synced last.each within held in
       record { count = first.0; enough = first.2; within = first.3; text = first.1; has = first.4 }
 
   -- now it has all of them
-  pub all_in : HasParts (files_in dir (tree_now d)) parts.edits parts.rows (logs_with parts (last_text parts)) (batches_with parts parts.last.batches)
+  pub all_in : HasParts (files_in dir (tree_now d)) parts.edits parts.rows (logs_with parts (last_text parts))
+      (batches_with parts parts.last.batches)
   all_in =
       let held = kept_bytes d (last_path dir parts) last.id last.file last.kept in
       has_parts d dir kept parts reads (tree_now d) (reads_image d) (last_text parts) parts.last.batches
       (held.file.is_now ∙ ap Some (held.whole ∙ last.text))
       (record { torn = None; reading = whole_reads (first_in_last parts) parts.last.batches last.each; ends = refl })
 
-pub has_first : (d : State) (dir : List ℕ) (kept : Kept) (parts : Parts) → Sane d dir kept parts → (t : Tree) → IsImage d t → HasFirst dir parts t
+pub has_first : (d : State) (dir : List ℕ) (kept : Kept) (parts : Parts) → Sane d dir kept parts → (t : Tree) → IsImage d t
+    → HasFirst dir parts t
 has_first d dir kept parts sane = first_in d dir kept parts (readable d dir kept parts sane) sane.logs.last
 
 pub has_all : (d : State) (dir : List ℕ) (kept : Kept) (parts : Parts) → Sane d dir kept parts
-    → HasParts (files_in dir (tree_now d)) parts.edits parts.rows (logs_with parts (last_text parts)) (batches_with parts parts.last.batches)
+    → HasParts (files_in dir (tree_now d)) parts.edits parts.rows (logs_with parts (last_text parts))
+    (batches_with parts parts.last.batches)
 has_all d dir kept parts sane = all_in d dir kept parts (readable d dir kept parts sane) sane.logs.last

@@ -41,11 +41,17 @@ module _ (d : State) (path old : List ℕ) where
       held None = refl
       held (Some id) = refl
 
-  appended_by : (id : ℕ) (more : List ℕ) (o : Option ℕ) → bytes_by o (tree_now d) ≡ Some old → (added : List ℕ) × (bytes_by o (tree_now (after d (Appended id more))) ≡ Some (old ++ added))
+  appended_by : (id : ℕ) (more : List ℕ) (o : Option ℕ) → bytes_by o (tree_now d) ≡ Some old
+      → (added : List ℕ) × (bytes_by o (tree_now (after d (Appended id more))) ≡ Some (old ++ added))
   appended_by id more None is = cc
   appended_by id more (Some k) is =
-      elim (k == id) as (λ b. (k == id) ≡ b → (added : List ℕ) × (slice_get (contents_of (in_file (longer more) id d.files)) k ≡ Some (old ++ added))) [
-        | true ↦ λ same. (more, subst (λ (n : ℕ). slice_get (contents_of (in_file (longer more) n d.files)) k ≡ Some (old ++ more)) (number k id same) (contents_longer more d.files k old is))
+      elim (k == id) as (λ b. (k == id) ≡ b → (added : List ℕ)
+      × (slice_get (contents_of (in_file (longer more) id d.files)) k ≡ Some (old ++ added))) [
+        | true ↦ λ same. (
+          more,
+          subst (λ (n : ℕ). slice_get (contents_of (in_file (longer more) n d.files)) k
+              ≡ Some (old ++ more)) (number k id same) (contents_longer more d.files k old is),
+        )
         | false ↦ λ differ. ([], contents_other (longer more) d.files k id (not_if k id differ) ∙ is ∙ ap Some (sym (append-nil old)))
       ] refl
 
@@ -61,23 +67,27 @@ module _ (d : State) (path old : List ℕ) where
   bytes_stay Names_synced spares is = same_bytes (after d Names_synced) path old is
   bytes_stay Idle spares is = same_bytes d path old is
 
-pinned_stays : (d : State) (dir : List ℕ) (c : Change) (file : PinnedFile) → SparesName (path_in dir file.name) c → IsPinned d dir file → IsPinned (after d c) dir file
+pinned_stays : (d : State) (dir : List ℕ) (c : Change) (file : PinnedFile) → SparesName (path_in dir file.name) c
+    → IsPinned d dir file → IsPinned (after d c) dir file
 pinned_stays d dir c file spares is =
     let next = bytes_stay d (path_in dir file.name) (file.bytes ++ is.more) c spares is.there in
     record { fits = is.fits; more = is.more ++ next.0; there = next.1 ∙ ap Some (append_assoc file.bytes is.more next.0) }
 
-pub files_stay : (d : State) (dir : List ℕ) (c : Change) (files : List PinnedFile) → All (λ (file : PinnedFile). SparesName (path_in dir file.name) c) files → PinFiles d dir files → PinFiles (after d c) dir files
+pub files_stay : (d : State) (dir : List ℕ) (c : Change) (files : List PinnedFile)
+    → All (λ (file : PinnedFile). SparesName (path_in dir file.name) c) files → PinFiles d dir files → PinFiles (after d c) dir files
 files_stay d dir c files spares are = λ k default within. pinned_stays d dir c _ (spares k default within) (are k default within)
 
 -- pins that fit fit also so, where each that fits does
-pub pins_fit : (Fits Also : KeptPin → Pin → Type 0) → ((kept : KeptPin) (pin : Pin) → Fits kept pin → Also kept pin) → (kept : List KeptPin) (pins : List Pin) → ArePins Fits kept pins → ArePins Also kept pins
+pub pins_fit : (Fits Also : KeptPin → Pin → Type 0) → ((kept : KeptPin) (pin : Pin) → Fits kept pin → Also kept pin)
+    → (kept : List KeptPin) (pins : List Pin) → ArePins Fits kept pins → ArePins Also kept pins
 pins_fit Fits Also more [] [] are = tt
 pins_fit Fits Also more [] (pin ∷ pins) are = are
 pins_fit Fits Also more (k ∷ kept) [] are = are
 pins_fit Fits Also more (k ∷ kept) (pin ∷ pins) are = (more k pin are.0, pins_fit Fits Also more kept pins are.1)
 
 -- pins that fit in two ways fit in both
-pub pins_both : (Fits Also : KeptPin → Pin → Type 0) → (kept : List KeptPin) (pins : List Pin) → ArePins Fits kept pins → ArePins Also kept pins
+pub pins_both : (Fits Also : KeptPin → Pin → Type 0) → (kept : List KeptPin) (pins : List Pin) → ArePins Fits kept pins
+    → ArePins Also kept pins
     → ArePins (λ (k : KeptPin) (pin : Pin). Fits k pin × Also k pin) kept pins
 pins_both Fits Also [] [] are also = tt
 pins_both Fits Also [] (pin ∷ pins) are also = are
@@ -86,7 +96,10 @@ pins_both Fits Also (k ∷ kept) (pin ∷ pins) are also = ((are.0, also.0), pin
 
 module _ (s t : model.State) (opening : t.opening ≡ s.opening) (began : t.began ≡ s.began) (accepted : t.accepted ≡ s.accepted) where
   shown_same : (count : ℕ) → shown_at t count ≡ shown_at s count
-  shown_same count j = record { sequence = sequence_after (began j) (take count (accepted j)); contents = replayed (opening j) (take count (accepted j)) }
+  shown_same count j = record {
+    sequence = sequence_after (began j) (take count (accepted j));
+    contents = replayed (opening j) (take count (accepted j));
+  }
 
   pin_alike : (kept : KeptPin) (pin : Pin) → IsKeptPin s kept pin → IsKeptPin t kept pin
   pin_alike kept pin is = record {
@@ -96,7 +109,8 @@ module _ (s t : model.State) (opening : t.opening ≡ s.opening) (began : t.bega
     manifest = is.manifest;
     holder = is.holder;
     within = subst (λ (l : List (List Op)). pin.batches ≤ length l) (sym accepted) is.within;
-    stands = subst (λ (shown : Shown). Stands (folder_of_pin kept.manifest pin.files) shown.contents shown.sequence) (sym (shown_same pin.batches)) is.stands;
+    stands = subst (λ (shown : Shown). Stands (folder_of_pin kept.manifest pin.files) shown.contents shown.sequence)
+        (sym (shown_same pin.batches)) is.stands;
   }
 
   -- what is kept of pins fits in each state with the same beginning and the same batches

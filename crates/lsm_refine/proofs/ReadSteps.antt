@@ -61,19 +61,23 @@ stands_folder : (names : Names) (dir : List ℕ) → finmap.get names dir ≡ So
 stands_folder names [] is = refl
 stands_folder names (c ∷ dir) is = is
 
-own_reads : (s : State) (tree : Tree) (count : ℕ) → StandsFor s tree count → folder_reading s.own tree ≡ Ok (shown_after s (take count (written s)))
+own_reads : (s : State) (tree : Tree) (count : ℕ) → StandsFor s tree count
+    → folder_reading s.own tree ≡ Ok (shown_after s (take count (written s)))
 unfolding folder_reading
 own_reads s tree count is =
-    ap (λ (place : Place). as_shown s.own (reading place)) (folder_place s.own tree (stands_folder tree.names s.own is.folder)) ∙ ap (as_shown s.own) is.stands.read
+    ap (λ (place : Place). as_shown s.own (reading place)) (folder_place s.own tree
+    (stands_folder tree.names s.own is.folder)) ∙ ap (as_shown s.own) is.stands.read
 
 one_at_most : (o : Option (List Op)) → length (none_or_one o) ≤ 1
 one_at_most None = omega arith
 one_at_most (Some ops) = omega arith
 
 -- a front of the written batches that has the accepted ones is these, or all
-front_of : (s : State) (count : ℕ) → length s.accepted ≤ count → (take count (written s) ≡ s.accepted) ⊎ (take count (written s) ≡ written s)
+front_of : (s : State) (count : ℕ) → length s.accepted ≤ count
+    → (take count (written s) ≡ s.accepted) ⊎ (take count (written s) ≡ written s)
 front_of s count enough = ⊎_elim
-    (λ same. inl (take-append-le count s.accepted (none_or_one s.doubtful) (omega (arith, same)) ∙ take_all count s.accepted (omega (arith, same))))
+    (λ same. inl (take-append-le count s.accepted (none_or_one s.doubtful) (omega (arith, same)) ∙ take_all count s.accepted
+    (omega (arith, same))))
     (λ differs. inr (take_all count (written s) (omega (arith, enough, more differs, one_at_most s.doubtful, length-append s.accepted (none_or_one s.doubtful)))))
     (cases_eq count (length s.accepted))
   where
@@ -86,7 +90,11 @@ module _ (v w : Shown) (s : State) (good : Good v s) (same : IsUnchanged good.st
   t = with_counts w.disk s
 
   becomes : Becomes s t
-  becomes = record { rest = refl; faults = omega (arith, good.counts.faults, faults); refusals = omega (arith, good.counts.refusals, refusals) }
+  becomes = record {
+    rest = refl;
+    faults = omega (arith, good.counts.faults, faults);
+    refusals = omega (arith, good.counts.refusals, refusals);
+  }
 
   stays : Good w t
   stays = unchanged_good v w s good same halt
@@ -96,7 +104,8 @@ module _ (v w : Shown) (s : State) (good : Good v s) (same : IsUnchanged good.st
 
   -- ---- pairs
 
-  pub get_ok : (key : List ℕ) (value : Option (List ℕ)) → value ≡ finmap.get (contents_now s) key → Steps s (event.Get key) (reply.Get (Ok value)) w
+  pub get_ok : (key : List ℕ) (value : Option (List ℕ)) → value ≡ finmap.get (contents_now s) key
+      → Steps s (event.Get key) (reply.Get (Ok value)) w
   get_ok key value is = (t, get_step s t key (Ok value) (Done value refl refl (is, becomes)), stays)
 
   pub get_fault : (key : List ℕ) → Rose v.disk.faults w.disk.faults → Steps s (event.Get key) (reply.Get (Err error.DiskFault)) w
@@ -121,20 +130,30 @@ module _ (v w : Shown) (s : State) (good : Good v s) (same : IsUnchanged good.st
       → result ≡ folder_reading dir (tree_now (state_of good.story)) → Steps s (event.Show dir) (reply.Show result) w
   show_other dir result named differs is =
       let other : dir ≢ s.own = λ own. differs (own ∙ sym good.kept.own) in
-      let as_known = is ∙ good.folders.now.reads dir named other in
-      (t, show_step s t dir result (reads.As_it_reads (subst (λ (b : Bool). ReadsAs s dir b result) (sym (other_folder s.own dir other)) as_known) becomes), stays)
+      let as_known = is ∙ good.folders.now.reads dir named other in (
+        t,
+        show_step s t dir result (reads.As_it_reads (subst (λ (b : Bool). ReadsAs s dir b result)
+            (sym (other_folder s.own dir other)) as_known) becomes),
+        stays,
+      )
 
   -- its own one, as it reads now
-  pub show_own : (result : Result Reading StoreError) → result ≡ folder_reading v.dir (tree_now (state_of good.story)) → Steps s (event.Show v.dir) (reply.Show result) w
+  pub show_own : (result : Result Reading StoreError) → result ≡ folder_reading v.dir (tree_now (state_of good.story))
+      → Steps s (event.Show v.dir) (reply.Show result) w
   show_own result is =
       let now = good_now v s good in
       let reads_now : result ≡ Ok (shown_after s (take now.count (written s))) =
-      is ∙ ap (λ (dir : List ℕ). folder_reading dir (tree_now (state_of good.story))) good.kept.own ∙ own_reads s (tree_now (state_of good.story)) now.count now.stands in
+      is ∙ ap (λ (dir : List ℕ). folder_reading dir (tree_now (state_of good.story))) good.kept.own ∙ own_reads s
+      (tree_now (state_of good.story)) now.count now.stands in
       let front : ReadsAs s v.dir true result = ⊎_elim
       (λ all. inl (reads_now ∙ ap (λ (l : List (List Op)). Ok (shown_after s l)) all))
       (λ more. inr (reads_now ∙ ap (λ (l : List (List Op)). Ok (shown_after s l)) more))
-      (front_of s now.count now.enough) in
-      (t, show_step s t v.dir result (reads.As_it_reads (subst (λ (b : Bool). ReadsAs s v.dir b result) (sym ((bytes_eq-Decides s.own v.dir).1 (sym good.kept.own))) front) becomes), stays)
+      (front_of s now.count now.enough) in (
+        t,
+        show_step s t v.dir result (reads.As_it_reads (subst (λ (b : Bool). ReadsAs s v.dir b result)
+            (sym ((bytes_eq-Decides s.own v.dir).1 (sym good.kept.own))) front) becomes),
+        stays,
+      )
 
   pub show_fault : (dir : List ℕ) → Rose v.disk.faults w.disk.faults → Steps s (event.Show dir) (reply.Show (Err error.DiskFault)) w
   show_fault dir rose = (t, show_step s t dir (Err error.DiskFault) (reads.Failed refl (fails rose)), stays)

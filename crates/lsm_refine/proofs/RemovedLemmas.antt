@@ -37,13 +37,15 @@ use Rattle.lsm_refine.proofs.UnneededLemmas.{unneeded_readable, unneeded_last}
 -- ---- the names that pins hold
 
 -- what is so of the names of files is so of the names that a pin of them holds
-pub mapped_names : (P : FileName → Type 0) (files : List PinnedFile) → All (λ (file : PinnedFile). P file.name) files → All P (map (λ (f : FileName × ℕ). f.0) (map held files))
+pub mapped_names : (P : FileName → Type 0) (files : List PinnedFile) → All (λ (file : PinnedFile). P file.name) files
+    → All P (map (λ (f : FileName × ℕ). f.0) (map held files))
 mapped_names P [] are = All-nil P
 mapped_names P (file ∷ files) are =
     All-cons P file.name (map (λ (f : FileName × ℕ). f.0) (map held files)) (All-head (λ (f : PinnedFile). P f.name) file files are)
     (mapped_names P files (All-tail (λ (f : PinnedFile). P f.name) file files are))
 
-own_names : (files : List PinnedFile) → All (λ (file : PinnedFile). Contains (map (λ (f : FileName × ℕ). f.0) (map held files)) file.name) files
+own_names : (files : List PinnedFile) → All (λ (file : PinnedFile). Contains
+    (map (λ (f : FileName × ℕ). f.0) (map held files)) file.name) files
 own_names [] = All-nil (λ (file : PinnedFile). Contains (map (λ (f : FileName × ℕ). f.0) (map held [])) file.name)
 own_names (file ∷ files) =
     let names : List FileName = map (λ (f : FileName × ℕ). f.0) (map held files) in
@@ -58,32 +60,39 @@ module _ (s : State) (d : disk.State) (dir path : List ℕ) where
 
   one : (k : KeptPin) (kept : List KeptPin) (pin : Pin) → k.files ≡ map held pin.files
       → ((name : FileName) → IsFileName name → Contains (flat_map names_held (k ∷ kept)) name → path_in dir name ≢ path)
-      → (file : PinnedFile) → IsPinned d dir file → Contains (map (λ (f : FileName × ℕ). f.0) (map held pin.files)) file.name → path_in dir file.name ≢ path
+      → (file : PinnedFile) → IsPinned d dir file → Contains (map (λ (f : FileName × ℕ). f.0) (map held pin.files)) file.name
+      → path_in dir file.name ≢ path
   one k kept pin same apart file is among =
       apart file.name is.fits (Contains-append_left (names_held k) (flat_map names_held kept) file.name
       (subst (λ (l : List (FileName × ℕ)). Contains (map (λ (f : FileName × ℕ). f.0) l) file.name) (sym same) among))
 
-  pins_others : (kept : List KeptPin) (pins : List Pin) → ArePins (IsKeptPin s) kept pins → All (λ (pin : Pin). PinFiles d dir pin.files) pins
-      → ((name : FileName) → IsFileName name → Contains (flat_map names_held kept) name → path_in dir name ≢ path) → ArePins AreOthers kept pins
+  pins_others : (kept : List KeptPin) (pins : List Pin) → ArePins (IsKeptPin s) kept pins
+      → All (λ (pin : Pin). PinFiles d dir pin.files) pins
+      → ((name : FileName) → IsFileName name → Contains (flat_map names_held kept) name → path_in dir name ≢ path)
+      → ArePins AreOthers kept pins
   pins_others [] [] are files apart = tt
   pins_others [] (pin ∷ pins) are files apart = are
   pins_others (k ∷ kept) [] are files apart = are
   pins_others (k ∷ kept) (pin ∷ pins) are files apart = (
-    λ n default within. one k kept pin are.0.files apart _ (All-head (λ (p : Pin). PinFiles d dir p.files) pin pins files n default within) (own_names pin.files n default within),
+    λ n default within. one k kept pin are.0.files apart _ (All-head
+        (λ (p : Pin). PinFiles d dir p.files) pin pins files n default within) (own_names pin.files n default within),
     pins_others kept pins are.1 (All-tail (λ (p : Pin). PinFiles d dir p.files) pin pins files)
         (λ name fits among. apart name fits (Contains-append_right (names_held k) (flat_map names_held kept) name among)),
   )
 
-  pinned_others : (kept : List KeptPin) (pins : List Pin) → ArePins AreOthers kept pins → All (λ (pin : Pin). All (λ (file : PinnedFile). path_in dir file.name ≢ path) pin.files) pins
+  pinned_others : (kept : List KeptPin) (pins : List Pin) → ArePins AreOthers kept pins
+      → All (λ (pin : Pin). All (λ (file : PinnedFile). path_in dir file.name ≢ path) pin.files) pins
   pinned_others [] [] are = All-nil (λ (pin : Pin). All (λ (file : PinnedFile). path_in dir file.name ≢ path) pin.files)
   pinned_others [] (pin ∷ pins) are = absurd are
   pinned_others (k ∷ kept) [] are = absurd are
   pinned_others (k ∷ kept) (pin ∷ pins) are =
-      All-cons (λ (p : Pin). All (λ (file : PinnedFile). path_in dir file.name ≢ path) p.files) pin pins are.0 (pinned_others kept pins are.1)
+      All-cons (λ (p : Pin). All (λ (file : PinnedFile). path_in dir file.name ≢ path) p.files) pin pins are.0
+      (pinned_others kept pins are.1)
 
 -- ---- the store without the file
 
-module _ (v : Shown) (s : State) (good : Good v s) (run : IsRunning (state_of good.story) v s) (name : FileName) (is : MayBeRemoved v.kept name) where
+module _ (v : Shown) (s : State) (good : Good v s) (run : IsRunning (state_of good.story) v s) (name : FileName)
+    (is : MayBeRemoved v.kept name) where
   abbrev d : disk.State
   d = state_of good.story
 
@@ -115,14 +124,19 @@ module _ (v : Shown) (s : State) (good : Good v s) (run : IsRunning (state_of go
   held_path other fits has = other_path other fits (λ same. is.unheld (subst (IsHeld v.kept) same has))
 
   others : ArePins (AreOthers s d v.dir path) v.kept.pins s.pins
-  others = pins_others s d v.dir path v.kept.pins s.pins good.pinned.pins good.pinned.files (λ other fits among. held_path other fits (inr among))
+  others = pins_others s d v.dir path v.kept.pins s.pins good.pinned.pins good.pinned.files
+      (λ other fits among. held_path other fits (inr among))
 
   -- the pinned files are there still, and the checkpoints
   pub removed_pins : All (λ (pin : Pin). PinFiles (after (state_of good.story) (Named (Gone (path_in v.dir name)))) v.dir pin.files) s.pins
   removed_pins k default within j file inside = stays _ (pinned_others s d v.dir path v.kept.pins s.pins others k default within j file inside) (good.pinned.files k default within j file inside)
     where
       stays : (file : PinnedFile) → path_in v.dir file.name ≢ path → IsPinned d v.dir file → IsPinned gone v.dir file
-      stays file differs has = record { fits = has.fits; more = has.more; there = bytes_stay path d gone removed_at (path_in v.dir file.name) differs (file.bytes ++ has.more) has.there }
+      stays file differs has = record {
+        fits = has.fits;
+        more = has.more;
+        there = bytes_stay path d gone removed_at (path_in v.dir file.name) differs (file.bytes ++ has.more) has.there;
+      }
 
   jobs_gone : JobsBuild gone v.dir v.kept.pins s
   jobs_gone = jobs_beside v.dir name named obsolete_fits d gone removed_at run.sane.files v.kept.pins s others run.jobs
@@ -158,16 +172,24 @@ module _ (v : Shown) (s : State) (good : Good v s) (run : IsRunning (state_of go
         nothing None none there = let clash : false ≡ true = there in cc
         nothing (Some node) none there = cc
 
-        by : (other : FileName) → IsFileName other → is_some (finmap.get (names_now gone) (path_in v.dir other)) ≡ true → (path_in v.dir other ≡ path) ⊎ (path_in v.dir other ≢ path) → Contains known other
-        by other fits there (inl same) = absurd (nothing (finmap.get (names_now gone) (path_in v.dir other)) (ap (finmap.get (names_now gone)) same ∙ gone_there) there)
+        by : (other : FileName) → IsFileName other → is_some (finmap.get (names_now gone) (path_in v.dir other)) ≡ true
+            → (path_in v.dir other ≡ path) ⊎ (path_in v.dir other ≢ path) → Contains known other
+        by other fits there (inl same) = absurd (nothing (finmap.get (names_now gone) (path_in v.dir other))
+            (ap (finmap.get (names_now gone)) same ∙ gone_there) there)
         by other fits there (inr differs) =
-            fewer.all other (run.sane.known.all other fits (ap is_some (sym (removed_at.now (path_in v.dir other) differs)) ∙ there)) (λ same. differs (ap (path_in v.dir) same))
+            fewer.all other (run.sane.known.all other fits (ap is_some
+            (sym (removed_at.now (path_in v.dir other) differs)) ∙ there)) (λ same. differs (ap (path_in v.dir) same))
 
     sane_gone : Sane gone v.dir k run.parts
     sane_gone =
         let reads = unneeded_readable v s good run name obsolete_fits obsolete_unneeded gone removed_at in
         record {
-          current = record { named = reads.current.named; folder = reads.current.folder; numbered = reads.current.numbered; file = reads.current.file };
+          current = record {
+            named = reads.current.named;
+            folder = reads.current.folder;
+            numbered = reads.current.numbered;
+            file = reads.current.file;
+          };
           edits = record {
             are = reads.edits.are;
             file = reads.edits.file;
@@ -199,20 +221,28 @@ module _ (v : Shown) (s : State) (good : Good v s) (run : IsRunning (state_of go
           };
           quiet = record {
             spares = λ other fits has.
-                removed_at.quiet (path_in v.dir other) (held_path other fits (held_still other has)) (run.sane.quiet.spares other fits (held_still other has));
+                removed_at.quiet (path_in v.dir other) (held_path other fits (held_still other has))
+                (run.sane.quiet.spares other fits (held_still other has));
           };
           known = known_gone;
           files = files_at v.dir name named obsolete_fits d gone removed_at run.sane.files;
           lawful = run.sane.lawful;
-          written = record { tables = given_gone; alone = All-weaker (IsAlone d) (IsAlone gone) removed_at.alone (appended_to v.dir v.kept run.parts.last.number) run.sane.written.alone };
+          written = record {
+            tables = given_gone;
+            alone = All-weaker (IsAlone d) (IsAlone gone) removed_at.alone
+                (appended_to v.dir v.kept run.parts.last.number) run.sane.written.alone;
+          };
           restored = restored_at v.dir name named obsolete_fits d gone removed_at run.sane.files v.kept.begun v.kept.hand run.sane.restored;
         }
       where
-        given : (table : Unfinished) → IsFileName (Table table.number) × (Table table.number ≢ name) → bytes_at (tree_now d) (path_in v.dir (Table table.number)) ≡ Some table.bytes
+        given : (table : Unfinished) → IsFileName (Table table.number) × (Table table.number ≢ name)
+            → bytes_at (tree_now d) (path_in v.dir (Table table.number)) ≡ Some table.bytes
             → bytes_at (tree_now gone) (path_in v.dir (Table table.number)) ≡ Some table.bytes
-        given table other has = bytes_stay path d gone removed_at (path_in v.dir (Table table.number)) (other_path (Table table.number) other.0 other.1) table.bytes has
+        given table other has = bytes_stay path d gone removed_at (path_in v.dir (Table table.number))
+            (other_path (Table table.number) other.0 other.1) table.bytes has
 
-        given_gone : All (λ (table : Unfinished). bytes_at (tree_now gone) (path_in v.dir (Table table.number)) ≡ Some table.bytes) v.kept.unfinished
+        given_gone : All (λ (table : Unfinished). bytes_at (tree_now gone) (path_in v.dir (Table table.number))
+            ≡ Some table.bytes) v.kept.unfinished
         given_gone n default within = given _ (is.written n default within) (run.sane.written.tables n default within)
 
     module _ (seen : Seen) where
@@ -252,16 +282,24 @@ module _ (v : Shown) (s : State) (good : Good v s) (run : IsRunning (state_of go
       }
 
       -- the store without the file is good for the same state
-      pub removed_good : (story : Story) → seen.told ≡ Some story → v.halt ≡ None → state_of story ≡ after (state_of good.story) (Named (Gone (path_in v.dir name)))
+      pub removed_good : (story : Story) → seen.told ≡ Some story → v.halt ≡ None
+          → state_of story ≡ after (state_of good.story) (Named (Gone (path_in v.dir name)))
           → Good (removed_shown seen known v) (with_counts seen s)
       removed_good story told none at = record {
         story = story;
         told = told;
-        mode = subst (λ (x : disk.State). IsInMode v.halt x w t) (sym at) (subst (λ (h : Option Halt). IsInMode h gone w t) (sym none) runs_gone);
-        pinned = subst (λ (x : disk.State). Pinned x v.dir v.kept.pins t) (sym at) (record { pins = pins_alike s t refl refl refl v.kept.pins s.pins good.pinned.pins; files = removed_pins });
+        mode = subst (λ (x : disk.State). IsInMode v.halt x w t) (sym at)
+            (subst (λ (h : Option Halt). IsInMode h gone w t) (sym none) runs_gone);
+        pinned = subst (λ (x : disk.State). Pinned x v.dir v.kept.pins t) (sym at)
+            (record { pins = pins_alike s t refl refl refl v.kept.pins s.pins good.pinned.pins; files = removed_pins });
         folders = subst (λ (x : disk.State). FoldersRead x t) (sym at) (record { now = folders_gone.now; sure = folders_gone.sure });
         clear = subst AreClearable (sym at) (clear_at v.dir name named obsolete_fits d gone removed_at run.sane.files good.clear);
-        counted = record { durable = good.counted.durable; numbers = good.counted.numbers; fronts = good.counted.fronts; begun = good.counted.begun };
+        counted = record {
+          durable = good.counted.durable;
+          numbers = good.counted.numbers;
+          fronts = good.counted.fronts;
+          begun = good.counted.begun;
+        };
         kept = record {
           own = good.kept.own;
           sequence = good.kept.sequence;

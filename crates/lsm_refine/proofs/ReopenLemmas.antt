@@ -39,7 +39,8 @@ crashed_twice s mid t first second =
       kept = first.kept;
       durable = first.durable;
       accepted =
-          second.accepted ∙ ap (take second.kept) all ∙ take_all second.kept mid.accepted (omega (arith, first.all, second.durable)) ∙ first.accepted;
+          second.accepted ∙ ap (take second.kept) all ∙ take_all second.kept mid.accepted
+          (omega (arith, first.all, second.durable)) ∙ first.accepted;
       all = second.all;
       folders = keeps_twice s.folders mid.folders t.folders first.folders second.folders;
       rest = second.rest ∙ ap (λ (q : State). record (closed q) {
@@ -69,12 +70,15 @@ module _ (s : State) (before : Story) (is : IsLeftOf s (tree_now (state_of befor
   opens_again : (dir : List ℕ) (v : Shown) → s.own ≡ dir → HasOpened before dir v → OpensTo is.left v
   opens_again dir v own opened = opened.leads is.left (own_is ∙ own) found
 
-  stays_left : (dir : List ℕ) (told : Option Story) → s.own ≡ dir → LosesNothing before dir told → Went before told (λ c. Unit {0}) (λ d t. IsLeftOf s t) (λ d. Unit {0})
+  stays_left : (dir : List ℕ) (told : Option Story) → s.own ≡ dir → LosesNothing before dir told
+      → Went before told (λ c. Unit {0}) (λ d t. IsLeftOf s t) (λ d. Unit {0})
   stays_left dir told own loses =
-      went_wider (λ c. Unit {0}) (λ c. Unit {0}) (λ d t. IsLeftOf is.left t) (λ d t. IsLeftOf s t) (λ c done. tt) (λ d t left. left_twice s is.left t is.crashed left)
+      went_wider (λ c. Unit {0}) (λ c. Unit {0}) (λ d t. IsLeftOf is.left t) (λ d t. IsLeftOf s t) (λ c done. tt)
+      (λ d t left. left_twice s is.left t is.crashed left)
       (loses is.left (own_is ∙ own) found)
 
-pub reopens : (s : State) (t : Tree) (before : Story) (dir : List ℕ) (v : Shown) → IsLeftOf s t → IsSettled (state_of before) → tree_now (state_of before) ≡ t → s.own ≡ dir → HasOpened before dir v
+pub reopens : (s : State) (t : Tree) (before : Story) (dir : List ℕ) (v : Shown) → IsLeftOf s t → IsSettled (state_of before)
+    → tree_now (state_of before) ≡ t → s.own ≡ dir → HasOpened before dir v
     → ReopensTo s v
 reopens s t before dir v is settled same own opened =
     let there : IsLeftOf s (tree_now (state_of before)) = subst (IsLeftOf s) (sym same) is in
@@ -88,12 +92,15 @@ reopens s t before dir v is settled same own opened =
     }
 
 -- so it is with an image of a good store's disk
-pub good_reopens : (v w : Shown) (s : State) (t : Tree) (before : Story) (good : Good v s) → IsImage (state_of good.story) t → IsSettled (state_of before) → tree_now (state_of before) ≡ t
+pub good_reopens : (v w : Shown) (s : State) (t : Tree) (before : Story) (good : Good v s) → IsImage (state_of good.story) t
+    → IsSettled (state_of before) → tree_now (state_of before) ≡ t
     → HasOpened before v.dir w → ReopensTo s w
-good_reopens v w s t before good image settled same opened = reopens s t before v.dir w (good_leaves v s good t image) settled same (sym good.kept.own) opened
+good_reopens v w s t before good image settled same opened =
+    reopens s t before v.dir w (good_leaves v s good t image) settled same (sym good.kept.own) opened
 
 -- an opening that a crash cuts off leaves what the first crash may have left
-pub cut_off : (s : State) (t : Tree) (before : Story) (dir : List ℕ) (told : Option Story) → IsLeftOf s t → IsSettled (state_of before) → tree_now (state_of before) ≡ t → s.own ≡ dir
+pub cut_off : (s : State) (t : Tree) (before : Story) (dir : List ℕ) (told : Option Story) → IsLeftOf s t
+    → IsSettled (state_of before) → tree_now (state_of before) ≡ t → s.own ≡ dir
     → LosesNothing before dir told → Went before told (λ c. Unit {0}) (λ d u. IsLeftOf s u) (λ d. Unit {0})
 cut_off s t before dir told is settled same own loses = stays_left s before (subst (IsLeftOf s) (sym same) is) settled dir told own loses
 
@@ -101,7 +108,8 @@ cut_off s t before dir told is settled same own loses = stays_left s before (sub
 
 -- on a settled disk it is found as the state of its contents and its sequence
 pub stands_found : (d : disk.State) (dir : List ℕ) (contents : Contents) (sequence : ℕ) (folders : List FolderRead) → IsSettled d
-    → finmap.get (tree_now d).names dir ≡ Some Folder_node → Stands (files_in dir (tree_now d)) contents sequence → FoldersAre dir folders (tree_now d)
+    → finmap.get (tree_now d).names dir ≡ Some Folder_node → Stands (files_in dir (tree_now d)) contents sequence
+    → FoldersAre dir folders (tree_now d)
     → IsClearable (tree_now d).names → IsFound d (found_state dir contents sequence folders)
 stands_found d dir contents sequence folders settled folder stands are clear =
     left_found d (found_state dir contents sequence folders) settled
@@ -120,7 +128,8 @@ module _ (s : State) (before : Story) (v : Shown) (new : IsNewStore before s.own
   new_opened = record {
     kept = length s.accepted;
     accepted = omega arith;
-    shown = (λ i. record { sequence = sym none.began i; contents = sym none.opening i }) ∙ sym (ap (shown_after s) (nothing_kept (length s.accepted)));
+    shown = (λ i. record { sequence = sym none.began i; contents = sym none.opening i }) ∙ sym
+        (ap (shown_after s) (nothing_kept (length s.accepted)));
     folders = λ name. refl;
     sure = λ name folder found sure. found;
     rest = refl;
@@ -132,5 +141,6 @@ module _ (s : State) (before : Story) (v : Shown) (new : IsNewStore before s.own
     opened = new_opened;
     folders = refl;
     good = subst (λ (w : Shown). Good w made) (sym new.is)
-        (new_good v.disk s.own (first_number before s.own) new.beside s.folders new.story new.told new.has (record { now = read.now; sure = read.sure }));
+        (new_good v.disk s.own (first_number before s.own) new.beside s.folders new.story new.told new.has
+        (record { now = read.now; sure = read.sure }));
   }

@@ -25,7 +25,8 @@ use Rattle.lsm_refine.specs.Calls.{with_pins, state_with_pins}
 
 -- no operation that a crash may undo touches a name that these pins hold
 abbrev pub AreHeldQuiet : disk.State → List ℕ → List KeptPin → Type 0
-AreHeldQuiet d dir pins = (name : FileName) → IsFileName name → Contains (flat_map names_held pins) name → All (OpSpares (path_in dir name)) d.pending
+AreHeldQuiet d dir pins = (name : FileName) → IsFileName name → Contains (flat_map names_held pins) name
+    → All (OpSpares (path_in dir name)) d.pending
 
 module _ (v : Shown) (s : State) (pins : List KeptPin) (of : List Pin) (greatest disables : ℕ) where
   abbrev w : Shown
@@ -81,7 +82,10 @@ module _ (v : Shown) (s : State) (pins : List KeptPin) (of : List Pin) (greatest
         frozen = is.logs.frozen;
         active = is.logs.active;
       };
-      quiet = record { spares = λ name fits held. ⊎_elim (λ need. is.quiet.spares name fits (inl (needed name need))) (λ pinned. quiet name fits pinned) held };
+      quiet = record {
+        spares = λ name fits held. ⊎_elim (λ need. is.quiet.spares name fits (inl (needed name need)))
+            (λ pinned. quiet name fits pinned) held;
+      };
       known = record { there = is.known.there; all = is.known.all };
       files = is.files;
       lawful = is.lawful;
@@ -128,7 +132,12 @@ module _ (v : Shown) (s : State) (pins : List KeptPin) (of : List Pin) (greatest
     }
 
     stands : (least : ℕ) (tree : Tree) → StandsFrom s least tree → StandsFrom t least tree
-    stands least tree is = record { count = is.count; enough = is.enough; within = is.within; stands = record { folder = is.stands.folder; stands = is.stands.stands } }
+    stands least tree is = record {
+      count = is.count;
+      enough = is.enough;
+      within = is.within;
+      stands = record { folder = is.stands.folder; stands = is.stands.stands };
+    }
 
     halted : IsHalted d v s → IsHalted d w t
     halted is = record {
@@ -137,14 +146,17 @@ module _ (v : Shown) (s : State) (pins : List KeptPin) (of : List Pin) (greatest
       images = λ tree i. stands s.durable tree (is.images tree i);
     }
 
-    in_mode : (h : Option Halt) → (IsRunning d v s → AreHeldQuiet d v.dir pins × JobsBuild d v.dir pins t) → IsInMode h d v s → IsInMode h d w t
+    in_mode : (h : Option Halt) → (IsRunning d v s → AreHeldQuiet d v.dir pins × JobsBuild d v.dir pins t) → IsInMode h d v s
+        → IsInMode h d w t
     in_mode None runs is = let has = runs is in running has.0 has.1 is
     in_mode (Some first) runs is = halted is
 
   -- The new pins fit those of the new state, and their files are there; while the store runs, no operation that a crash may
   -- undo touches a name that they hold, and their checkpoints are built.
-  pub repinned_good : (good : Good v s) → ArePins (IsKeptPin t) pins of → All (λ (pin : Pin). PinFiles (state_of good.story) v.dir pin.files) of → IsCounted t
-      → (IsRunning (state_of good.story) v s → AreHeldQuiet (state_of good.story) v.dir pins × JobsBuild (state_of good.story) v.dir pins t) → Good w t
+  pub repinned_good : (good : Good v s) → ArePins (IsKeptPin t) pins of
+      → All (λ (pin : Pin). PinFiles (state_of good.story) v.dir pin.files) of → IsCounted t
+      → (IsRunning (state_of good.story) v s → AreHeldQuiet (state_of good.story) v.dir pins
+      × JobsBuild (state_of good.story) v.dir pins t) → Good w t
   repinned_good good fit files counted runs = record {
     story = good.story;
     told = good.told;

@@ -29,26 +29,31 @@ use Rattle.lsm_refine.proofs.ShownLemmas.{rows_both}
 
 pub batches_push : (older : List LogPart) (last : LogPart) → batches_in (older ++ last ∷ []) ≡ batches_in older ++ last.batches
 batches_push [] last = append-nil last.batches
-batches_push (log ∷ older) last = ap (λ (l : List (List Op)). log.batches ++ l) (batches_push older last) ∙ sym (append_assoc log.batches (batches_in older) last.batches)
+batches_push (log ∷ older) last = ap (λ (l : List (List Op)). log.batches ++ l) (batches_push older last) ∙ sym
+    (append_assoc log.batches (batches_in older) last.batches)
 
 pub synced_push : (d : State) (dir : List ℕ) (first : ℕ) (older : List LogPart) (last : LogPart) → AreSynced d dir first older
-    → IsWal d (path_in dir (Log last.number)) (in_sequence (sequence_after first (batches_in older)) last.batches) (length last.batches) → AreSynced d dir first (older ++ last ∷ [])
+    → IsWal d (path_in dir (Log last.number)) (in_sequence (sequence_after first (batches_in older)) last.batches)
+    (length last.batches) → AreSynced d dir first (older ++ last ∷ [])
 synced_push d dir first [] last synced wal = (wal, tt)
 synced_push d dir first (log ∷ older) last synced wal = (
   synced.0,
   synced_push d dir (sequence_after first log.batches) older last synced.1
-      (subst (λ (n : ℕ). IsWal d (path_in dir (Log last.number)) (in_sequence n last.batches) (length last.batches)) (sym (sequence_both first log.batches (batches_in older))) wal),
+      (subst (λ (n : ℕ). IsWal d (path_in dir (Log last.number)) (in_sequence n last.batches) (length last.batches))
+      (sym (sequence_both first log.batches (batches_in older))) wal),
 )
 
 is_less : (a b : ℕ) → a < b → nat_cmp a b ≡ Less
 is_less a b less = grind (arith, nat_tests)
 
-pub sorted_push : (xs : List ℕ) (n : ℕ) → IsStrictlySortedBy nat_cmp xs → All (λ (x : ℕ). x < n) xs → IsStrictlySortedBy nat_cmp (xs ++ n ∷ [])
+pub sorted_push : (xs : List ℕ) (n : ℕ) → IsStrictlySortedBy nat_cmp xs → All (λ (x : ℕ). x < n) xs
+    → IsStrictlySortedBy nat_cmp (xs ++ n ∷ [])
 unfolding IsStrictlySortedBy
 sorted_push [] n sorted below = (tt, tt)
 sorted_push (x ∷ xs) n sorted below = (at_end xs sorted.0, sorted_push xs n sorted.1 (All-tail (λ (y : ℕ). y < n) x xs below))
   where
-    at_end : (ys : List ℕ) → AllByRecursion (λ (y : ℕ). nat_cmp x y ≡ Less) ys → AllByRecursion (λ (y : ℕ). nat_cmp x y ≡ Less) (ys ++ n ∷ [])
+    at_end : (ys : List ℕ) → AllByRecursion (λ (y : ℕ). nat_cmp x y ≡ Less) ys
+        → AllByRecursion (λ (y : ℕ). nat_cmp x y ≡ Less) (ys ++ n ∷ [])
     at_end [] each = (is_less x n (All-head (λ (y : ℕ). y < n) x xs below), tt)
     at_end (y ∷ ys) each = (each.0, at_end ys each.1)
 
@@ -61,9 +66,11 @@ pub bytes_push : (first : ℕ) (older : List LogPart) (last : LogPart) → sum_b
 bytes_push first [] last = omega arith
 bytes_push first (log ∷ older) last =
     let next : ℕ = sequence_after first log.batches in
-    let all : sum_by text_bytes (texts_from first (log ∷ (older ++ last ∷ []))) ≡ length (wal_text (in_sequence first log.batches)) + sum_by text_bytes (texts_from next (older ++ last ∷ [])) =
+    let all : sum_by text_bytes (texts_from first (log ∷ (older ++ last ∷ [])))
+    ≡ length (wal_text (in_sequence first log.batches)) + sum_by text_bytes (texts_from next (older ++ last ∷ [])) =
     sum_by-cons text_bytes (log.number, wal_text (in_sequence first log.batches)) (texts_from next (older ++ last ∷ [])) in
-    let front : sum_by text_bytes (texts_from first (log ∷ older)) ≡ length (wal_text (in_sequence first log.batches)) + sum_by text_bytes (texts_from next older) =
+    let front : sum_by text_bytes (texts_from first (log ∷ older))
+    ≡ length (wal_text (in_sequence first log.batches)) + sum_by text_bytes (texts_from next older) =
     sum_by-cons text_bytes (log.number, wal_text (in_sequence first log.batches)) (texts_from next older) in
     let behind = ap (λ (n : ℕ). length (wal_text (in_sequence n last.batches))) (sequence_both first log.batches (batches_in older)) in
     omega (arith, all, front, bytes_push next older last, behind)
@@ -82,15 +89,19 @@ some_rows first [] more some same = omega (arith, some)
 some_rows first (op ∷ ops) more some same = no_cons _ _ same
 
 -- no rows are those of no batches
-pub none_logged : (first : ℕ) (batches : List (List Op)) → All IsLogged (in_sequence first batches) → rows_of first batches ≡ [] → batches ≡ []
+pub none_logged : (first : ℕ) (batches : List (List Op)) → All IsLogged (in_sequence first batches)
+    → rows_of first batches ≡ [] → batches ≡ []
 none_logged first [] each same = refl
 none_logged first (ops ∷ batches) each same =
-    absurd (some_rows first ops (rows_of (first + length ops) batches) (All-head IsLogged (record { first = first; ops = ops }) (in_sequence (first + length ops) batches) each).some same)
+    absurd (some_rows first ops (rows_of (first + length ops) batches)
+    (All-head IsLogged (record { first = first; ops = ops }) (in_sequence (first + length ops) batches) each).some same)
 
-pub none_in : (d : State) (dir : List ℕ) (first : ℕ) (logs : List LogPart) → AreSynced d dir first logs → rows_of first (batches_in logs) ≡ [] → batches_in logs ≡ []
+pub none_in : (d : State) (dir : List ℕ) (first : ℕ) (logs : List LogPart) → AreSynced d dir first logs
+    → rows_of first (batches_in logs) ≡ [] → batches_in logs ≡ []
 none_in d dir first [] synced same = refl
 none_in d dir first (log ∷ logs) synced same =
-    let parts = split_none (rows_of first log.batches) (rows_of (sequence_after first log.batches) (batches_in logs)) (sym (rows_both first log.batches (batches_in logs)) ∙ same) in
+    let parts = split_none (rows_of first log.batches) (rows_of (sequence_after first log.batches) (batches_in logs))
+    (sym (rows_both first log.batches (batches_in logs)) ∙ same) in
     let here : log.batches ≡ [] = none_logged first log.batches synced.0.each parts.0 in
     ap (λ (l : List (List Op)). l ++ batches_in logs) here ∙ none_in d dir (sequence_after first log.batches) logs synced.1 parts.1
 
@@ -108,7 +119,9 @@ pub no_bytes : (first : ℕ) (logs : List LogPart) → batches_in logs ≡ [] �
 no_bytes first [] none = refl
 no_bytes first (log ∷ logs) none =
     let parts = split_none log.batches (batches_in logs) none in
-    let here : length (wal_text (in_sequence first log.batches)) ≡ 0 = ap (λ (l : List (List Op)). length (wal_text (in_sequence first l))) parts.0 in
-    let all : sum_by text_bytes (texts_from first (log ∷ logs)) ≡ length (wal_text (in_sequence first log.batches)) + sum_by text_bytes (texts_from (sequence_after first log.batches) logs) =
+    let here : length (wal_text (in_sequence first log.batches)) ≡ 0 =
+    ap (λ (l : List (List Op)). length (wal_text (in_sequence first l))) parts.0 in
+    let all : sum_by text_bytes (texts_from first (log ∷ logs))
+    ≡ length (wal_text (in_sequence first log.batches)) + sum_by text_bytes (texts_from (sequence_after first log.batches) logs) =
     sum_by-cons text_bytes (log.number, wal_text (in_sequence first log.batches)) (texts_from (sequence_after first log.batches) logs) in
     omega (arith, all, here, no_bytes (sequence_after first log.batches) logs parts.1)

@@ -33,7 +33,8 @@ none_pending d settled k = ap (λ (ops : List NameOp). take k ops) settled.names
 
 pub one_image : (d : State) → IsSettled d → (t : Tree) → IsImage d t → t ≡ tree_now d
 one_image d settled t image =
-    let names : t.names ≡ names_now d = image.names ∙ ap (λ (ops : List NameOp). all_named ops d.durable) (none_pending d settled image.kept) in
+    let names : t.names ≡ names_now d = image.names ∙ ap (λ (ops : List NameOp). all_named ops d.durable)
+    (none_pending d settled image.kept) in
     let contents : t.contents ≡ contents_of d.files = all_whole d.files t.contents settled.files image.files in
     λ i. record { names = names i; contents = contents i }
 
@@ -42,7 +43,8 @@ one_image d settled t image =
 sealed_back : (held : List (List ℕ)) → contents_of (map sealed held) ≡ held
 sealed_back [] = refl
 sealed_back (bytes ∷ held) =
-    ap (λ (b : List ℕ). b ∷ contents_of (map sealed held)) (append-nil bytes) ∙ ap (λ (more : List (List ℕ)). bytes ∷ more) (sealed_back held)
+    ap (λ (b : List ℕ). b ∷ contents_of (map sealed held)) (append-nil bytes) ∙ ap (λ (more : List (List ℕ)). bytes ∷ more)
+    (sealed_back held)
 
 pub left_tree : (links : Bool) (t : Tree) → tree_now (left_by links t) ≡ t
 left_tree links t = λ i. record { names = t.names; contents = sealed_back t.contents i }

@@ -31,7 +31,8 @@ use Rattle.lsm_model.proofs.RunLemmas.{sequence_rises}
 
 -- ---- rows of two lists of batches
 
-pub rows_both : (first : ℕ) (one two : List (List Op)) → rows_of first (one ++ two) ≡ rows_of first one ++ rows_of (sequence_after first one) two
+pub rows_both : (first : ℕ) (one two : List (List Op)) → rows_of first (one ++ two)
+    ≡ rows_of first one ++ rows_of (sequence_after first one) two
 rows_both first [] two = refl
 rows_both first (ops ∷ one) two =
     ap (λ (rows : List Row). batch_rows first ops ++ rows) (rows_both (first + length ops) one two)
@@ -45,8 +46,10 @@ IsWithin low high row = (low ≤ row.sequence) × (row.sequence < high)
 batch_within : (first : ℕ) (ops : List Op) → All (IsWithin first (first + length ops)) (batch_rows first ops)
 batch_within first [] = All-nil (IsWithin first (first + 0))
 batch_within first (op ∷ ops) =
-    All-cons (IsWithin first (first + length (op ∷ ops))) (row_of first op) (batch_rows (first + 1) ops) (omega (arith, sequence-is first op), omega (arith, sequence-is first op))
-    (All-weaker (IsWithin (first + 1) (first + 1 + length ops)) (IsWithin first (first + length (op ∷ ops))) (λ row is. (omega (arith, is.0), omega (arith, is.1))) (batch_rows (first + 1) ops) (batch_within (first + 1) ops))
+    All-cons (IsWithin first (first + length (op ∷ ops))) (row_of first op) (batch_rows (first + 1) ops)
+    (omega (arith, sequence-is first op), omega (arith, sequence-is first op))
+    (All-weaker (IsWithin (first + 1) (first + 1 + length ops)) (IsWithin first (first + length (op ∷ ops)))
+    (λ row is. (omega (arith, is.0), omega (arith, is.1))) (batch_rows (first + 1) ops) (batch_within (first + 1) ops))
 
 rows_within : (first : ℕ) (batches : List (List Op)) → All (IsWithin first (sequence_after first batches)) (rows_of first batches)
 rows_within first [] = All-nil (IsWithin first first)
@@ -54,8 +57,10 @@ rows_within first (ops ∷ batches) =
     let next : ℕ = first + length ops in
     let end : ℕ = sequence_after next batches in
     All-append (IsWithin first end) (batch_rows first ops) (rows_of next batches)
-    (All-weaker (IsWithin first next) (IsWithin first end) (λ row is. (is.0, omega (arith, is.1, sequence_rises next batches))) (batch_rows first ops) (batch_within first ops))
-    (All-weaker (IsWithin next end) (IsWithin first end) (λ row is. (omega (arith, is.0), is.1)) (rows_of next batches) (rows_within next batches))
+    (All-weaker (IsWithin first next) (IsWithin first end) (λ row is. (is.0, omega (arith, is.1, sequence_rises next batches)))
+    (batch_rows first ops) (batch_within first ops))
+    (All-weaker (IsWithin next end) (IsWithin first end) (λ row is. (omega (arith, is.0), is.1)) (rows_of next batches)
+    (rows_within next batches))
 
 -- ---- a running store
 
@@ -78,7 +83,8 @@ module _ (d : disk.State) (v : Shown) (s : State) (is : IsRunning d v s) where
       ∙ sym (newest-append (rows_of (first_logged parts) older) (rows_of (first_in_last parts) parts.last.batches) key)
       ∙ ap (newest key) (sym (rows_both (first_logged parts) older parts.last.batches))
 
-  all_rows : (key : List ℕ) → newest key (table_rows ++ (v.kept.frozen ++ v.kept.active)) ≡ newest key (table_rows ++ rows_of (first_logged parts) (logged parts))
+  all_rows : (key : List ℕ) → newest key (table_rows ++ (v.kept.frozen ++ v.kept.active))
+      ≡ newest key (table_rows ++ rows_of (first_logged parts) (logged parts))
   all_rows key =
       newest-append table_rows (v.kept.frozen ++ v.kept.active) key
       ∙ ap (λ (o : Option Row). newest_of (newest key table_rows) o) (in_memory key)
@@ -87,7 +93,8 @@ module _ (d : disk.State) (v : Shown) (s : State) (is : IsRunning d v s) where
   pub running_shown : contents_of (rows_kept v.kept parts.rows) ≡ contents_now s
   running_shown =
       ap (λ (tables : Tables). contents_of (rows_of_tables tables parts.rows ++ (v.kept.frozen ++ v.kept.active))) is.sane.edits.version
-      ∙ contents_by_newest (table_rows ++ (v.kept.frozen ++ v.kept.active)) (table_rows ++ rows_of (first_logged parts) (logged parts)) all_rows
+      ∙ contents_by_newest (table_rows ++ (v.kept.frozen ++ v.kept.active))
+      (table_rows ++ rows_of (first_logged parts) (logged parts)) all_rows
       ∙ contents_replayed table_rows (first_logged parts) (logged parts) (tables_before parts is.sane.lawful)
       ∙ ap (λ (m : Contents). replayed m (logged parts)) is.tied.below
       ∙ replayed_both s.opening (take is.tied.flushed s.accepted) (logged parts)
@@ -106,7 +113,8 @@ module _ (d : disk.State) (v : Shown) (s : State) (is : IsRunning d v s) where
 
   front_many : length s.accepted - s.active ≡ length front
   front_many =
-      let many : length s.accepted ≡ length front + length parts.last.batches = ap (λ (l : List (List Op)). length l) (sym accepted_is) ∙ length-append front parts.last.batches in
+      let many : length s.accepted ≡ length front + length parts.last.batches =
+      ap (λ (l : List (List Op)). length l) (sym accepted_is) ∙ length-append front parts.last.batches in
       omega (arith, many, is.works.active)
 
   active_are : active_batches s ≡ parts.last.batches
@@ -138,7 +146,8 @@ module _ (d : disk.State) (v : Shown) (s : State) (is : IsRunning d v s) where
 
   frozen_within : All (IsWithin (first_logged parts) (first_in_last parts)) v.kept.frozen
   frozen_within =
-      All-permutation (IsWithin (first_logged parts) (first_in_last parts)) (rows_of (first_logged parts) older) v.kept.frozen is.sane.logs.frozen.same
+      All-permutation (IsWithin (first_logged parts) (first_in_last parts))
+      (rows_of (first_logged parts) older) v.kept.frozen is.sane.logs.frozen.same
       (rows_within (first_logged parts) older)
 
   pub running_order : AreInOrder v.kept parts.rows (first_active s)
@@ -148,13 +157,20 @@ module _ (d : disk.State) (v : Shown) (s : State) (is : IsRunning d v s) where
         subst (λ (last : ℕ). IsAsListed placed.info (parts.rows number) last) (sym is.sane.edits.last)
         (is.sane.lawful.listed number placed (ap (λ (tables : Tables). finmap.get tables number) (sym is.sane.edits.version) ∙ found));
     frozen =
-        All-weaker (IsWithin (first_logged parts) (first_in_last parts)) (λ (row : Row). (v.kept.last < row.sequence) × (row.sequence < first_active s))
+        All-weaker (IsWithin (first_logged parts) (first_in_last parts))
+        (λ (row : Row). (v.kept.last < row.sequence) × (row.sequence < first_active s))
         (λ row within. (omega (arith, last_is, within.0), omega (arith, first_is, within.1))) v.kept.frozen frozen_within;
     last = omega (arith, last_is, first_is, sequence_rises (first_logged parts) older);
   }
 
   pub running_shows : ShowsAccepted d v s
-  running_shows = record { rows = parts.rows; tables = is.sane.tables; order = running_order; shown = running_shown; active = running_active }
+  running_shows = record {
+    rows = parts.rows;
+    tables = is.sane.tables;
+    order = running_order;
+    shown = running_shown;
+    active = running_active;
+  }
 
 -- ---- in each mode
 

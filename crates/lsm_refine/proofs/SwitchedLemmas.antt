@@ -46,21 +46,25 @@ use Rattle.lsm_refine.proofs.WritingLemmas.{last_byte, last_byte-append}
 temp_apart : (dir : List ℕ) (n m : ℕ) → path_in dir (Table n) ≢ path_in dir (Temp m)
 unfolding spelled
 temp_apart dir n m same =
-    let text : six_digits n ++ codes ".sst" ≡ six_digits m ++ codes ".dbtmp" = ap (λ (l : List ℕ). drop 1 l) (append_cancel_left dir (47 ∷ spelled (Table n)) (47 ∷ spelled (Temp m)) same) in
-    let clash : 116 ≡ 112 = sym (last_byte-append (six_digits n) 46 (codes "sst")) ∙ ap last_byte text ∙ last_byte-append (six_digits m) 46 (codes "dbtmp") in
+    let text : six_digits n ++ codes ".sst" ≡ six_digits m ++ codes ".dbtmp" =
+    ap (λ (l : List ℕ). drop 1 l) (append_cancel_left dir (47 ∷ spelled (Table n)) (47 ∷ spelled (Temp m)) same) in
+    let clash : 116 ≡ 112 = sym (last_byte-append (six_digits n) 46 (codes "sst")) ∙ ap last_byte text ∙ last_byte-append
+    (six_digits m) 46 (codes "dbtmp") in
     omega (arith, clash)
 
 -- nor that of CURRENT
 table_no_current : (dir : List ℕ) (n : ℕ) → path_in dir (Table n) ≢ path_in dir Current
 unfolding spelled
 table_no_current dir n same =
-    let text : six_digits n ++ codes ".sst" ≡ codes "CURRENT" = ap (λ (l : List ℕ). drop 1 l) (append_cancel_left dir (47 ∷ spelled (Table n)) (47 ∷ spelled Current) same) in
+    let text : six_digits n ++ codes ".sst" ≡ codes "CURRENT" =
+    ap (λ (l : List ℕ). drop 1 l) (append_cancel_left dir (47 ∷ spelled (Table n)) (47 ∷ spelled Current) same) in
     let clash : 116 ≡ 84 = sym (last_byte-append (six_digits n) 46 (codes "sst")) ∙ ap last_byte text in
     omega (arith, clash)
 
 -- ---- what stays where a few names change
 
-module _ (dir : List ℕ) (named : is_folder_name dir ≡ true) (names : List FileName) (fits : All IsFileName names) (d later : State) (at : ChangesAmong dir names d later) where
+module _ (dir : List ℕ) (named : is_folder_name dir ≡ true) (names : List FileName) (fits : All IsFileName names)
+    (d later : State) (at : ChangesAmong dir names d later) where
   pub dir_elsewhere : IsElsewhere dir names dir
   dir_elsewhere = All-weaker IsFileName (λ (m : FileName). dir ≢ path_in dir m) (λ m fit. dir_apart dir m named fit) names fits
 
@@ -68,7 +72,8 @@ module _ (dir : List ℕ) (named : is_folder_name dir ≡ true) (names : List Fi
   name_elsewhere n fit others = λ k default within. name_apart dir _ named (fits k default within) n fit (others k default within)
 
   folder_elsewhere : (folder rest : List ℕ) → folder ≢ dir → IsElsewhere dir names (folder ++ 47 ∷ rest)
-  folder_elsewhere folder rest other = All-weaker IsFileName (λ (m : FileName). folder ++ 47 ∷ rest ≢ path_in dir m) (λ m fit. outside dir m named fit folder rest other) names fits
+  folder_elsewhere folder rest other = All-weaker IsFileName (λ (m : FileName). folder ++ 47 ∷ rest ≢ path_in dir m)
+      (λ m fit. outside dir m named fit folder rest other) names fits
 
   pub wal_among : (number : ℕ) (batches : List Logged) (durable : ℕ) → IsElsewhere dir names (path_in dir (Log number))
       → IsWal d (path_in dir (Log number)) batches durable → IsWal later (path_in dir (Log number)) batches durable
@@ -85,15 +90,21 @@ module _ (dir : List ℕ) (named : is_folder_name dir ≡ true) (names : List Fi
   abbrev IsOther : LogPart → Type 0
   IsOther log = IsElsewhere dir names (path_in dir (Log log.number))
 
-  pub synced_among : (first : ℕ) (logs : List LogPart) → All (λ (log : LogPart). IsElsewhere dir names (path_in dir (Log log.number))) logs → AreSynced d dir first logs → AreSynced later dir first logs
+  pub synced_among : (first : ℕ) (logs : List LogPart) → All
+      (λ (log : LogPart). IsElsewhere dir names (path_in dir (Log log.number))) logs → AreSynced d dir first logs
+      → AreSynced later dir first logs
   synced_among first [] each synced = tt
-  synced_among first (log ∷ logs) each synced =
-      (wal_among log.number _ _ (All-head IsOther log logs each) synced.0, synced_among (sequence_after first log.batches) logs (All-tail IsOther log logs each) synced.1)
+  synced_among first (log ∷ logs) each synced = (
+    wal_among log.number _ _ (All-head IsOther log logs each) synced.0,
+    synced_among (sequence_after first log.batches) logs
+        (All-tail IsOther log logs each) synced.1,
+  )
 
   module _ (files : AreFiles d dir) where
     not_folder : (other : List ℕ) → finmap.get (names_now d) other ≡ Some Folder_node → IsElsewhere dir names other
     not_folder other is = All-weaker IsFileName (λ (m : FileName). other ≢ path_in dir m)
-        (λ m fit same. files.no_folder m (length d.pending) fit (at_cut d (path_in dir m) (Some Folder_node) (ap (λ (p : List ℕ). finmap.get (names_now d) p) (sym same) ∙ is))) names fits
+        (λ m fit same. files.no_folder m (length d.pending) fit
+        (at_cut d (path_in dir m) (Some Folder_node) (ap (λ (p : List ℕ). finmap.get (names_now d) p) (sym same) ∙ is))) names fits
 
     pub files_among : AreFiles later dir
     files_among = record { no_folder = λ name k fit. at.no_folder (path_in dir name) (λ j. files.no_folder name j fit) k }
@@ -102,7 +113,8 @@ module _ (dir : List ℕ) (named : is_folder_name dir ≡ true) (names : List Fi
     clear_among are = record {
       no_file = λ built k id is leads.
           let was = cut_among dir names d later at (built_in built)
-          (All-weaker IsFileName (λ (m : FileName). built_in built ≢ path_in dir m) (λ m fit. apart_from (built_in built) dir (spelled m) (built_flat built is)) names fits) k in
+          (All-weaker IsFileName (λ (m : FileName). built_in built ≢ path_in dir m)
+          (λ m fit. apart_from (built_in built) dir (spelled m) (built_flat built is)) names fits) k in
           are.no_file built was.0 id is (sym was.1 ∙ leads);
       no_folder = λ built rest k is. at.no_folder (built_in built ++ 47 ∷ rest) (λ j. are.no_folder built rest j is) k;
     }
@@ -121,21 +133,28 @@ module _ (dir : List ℕ) (named : is_folder_name dir ≡ true) (names : List Fi
             (at.cuts k);
       }
 
-      part_among : (file : FileName) (id : ℕ) (f : FileState) → IsFileNow d (path_in folder file) id f → IsFileNow later (path_in folder file) id f
+      part_among : (file : FileName) (id : ℕ) (f : FileState) → IsFileNow d (path_in folder file) id f
+          → IsFileNow later (path_in folder file) id f
       part_among file id f is = at.files (path_in folder file) id f (folder_elsewhere folder (spelled file) other) is
 
       sealed_among : (part : Part) → IsSealed start folder d part → IsSealed start folder later part
-      sealed_among part sure = record { id = sure.id; later = sure.later; file = part_among part.name sure.id (sealed part.bytes) sure.file }
+      sealed_among part sure = record {
+        id = sure.id;
+        later = sure.later;
+        file = part_among part.name sure.id (sealed part.bytes) sure.file;
+      }
 
       beside_among : (id : ℕ) (part : Part) → IsSealedBeside start folder d id part → IsSealedBeside start folder later id part
       unfolding sealed_among
       beside_among id part is = (sealed_among part is.0, is.1)
 
-    begun_among : (start : State) (begun : Begun) (parts : List Part) (hand : Option FileName) → begun.folder ≢ dir → HasBegun start begun parts hand d → HasBegun start begun parts hand later
+    begun_among : (start : State) (begun : Begun) (parts : List Part) (hand : Option FileName) → begun.folder ≢ dir
+        → HasBegun start begun parts hand d → HasBegun start begun parts hand later
     begun_among start begun parts None other is = record {
       names = is.names;
       holds = names_among start begun.folder other begun.names is.holds;
-      each = All-weaker (IsSealed start begun.folder d) (IsSealed start begun.folder later) (sealed_among start begun.folder other) parts is.each;
+      each = All-weaker (IsSealed start begun.folder d) (IsSealed start begun.folder later)
+          (sealed_among start begun.folder other) parts is.each;
     }
     begun_among start begun parts (Some file) other is = (
       is.0,
@@ -145,11 +164,13 @@ module _ (dir : List ℕ) (named : is_folder_name dir ≡ true) (names : List Fi
         id = is.1.id;
         later = is.1.later;
         hand = part_among start begun.folder other file is.1.id is.0 is.1.hand;
-        each = All-weaker (IsSealedBeside start begun.folder d is.1.id) (IsSealedBeside start begun.folder later is.1.id) (beside_among start begun.folder other is.1.id) parts is.1.each;
+        each = All-weaker (IsSealedBeside start begun.folder d is.1.id) (IsSealedBeside start begun.folder later is.1.id)
+            (beside_among start begun.folder other is.1.id) parts is.1.each;
       },
     )
 
-    pub restored_among : (begun : Option Begun) (hand : Option FileName) → RestoreBuilds d dir begun hand → RestoreBuilds later dir begun hand
+    pub restored_among : (begun : Option Begun) (hand : Option FileName) → RestoreBuilds d dir begun hand
+        → RestoreBuilds later dir begun hand
     restored_among None hand is = is
     restored_among (Some begun) hand is = record {
       named = is.named;
@@ -161,8 +182,10 @@ module _ (dir : List ℕ) (named : is_folder_name dir ≡ true) (names : List Fi
 
 -- ---- CURRENT names a new manifest
 
-pub switched_has : (d later : State) (dir : List ℕ) (kept : Kept) (was edits : List Edit) (number next : ℕ) (known : List FileName) → HasEdits d dir kept was → AreEdits edits
-    → tables_after edits ≡ tables_after was → log_after edits ≡ log_after was → last_after edits ≡ last_after was → IsWholeFile later (path_in dir (Manifest number)) (manifest_text edits)
+pub switched_has : (d later : State) (dir : List ℕ) (kept : Kept) (was edits : List Edit) (number next : ℕ)
+    (known : List FileName) → HasEdits d dir kept was → AreEdits edits
+    → tables_after edits ≡ tables_after was → log_after edits ≡ log_after was → last_after edits ≡ last_after was
+    → IsWholeFile later (path_in dir (Manifest number)) (manifest_text edits)
     → HasEdits later dir (switched_kept number (length (manifest_text edits)) next known kept) edits
 switched_has d later dir kept was edits number next known has are tables log last whole = record {
   are = are;
@@ -173,10 +196,14 @@ switched_has d later dir kept was edits number next known has are tables log las
   last = has.last ∙ sym last;
 }
 
-module _ (d : State) (dir : List ℕ) (before : Kept) (was : Parts) (sane : Sane d dir before was) (number len next : ℕ) (known : List FileName) (edits : List Edit)
-    (numbered : IsFileName (Manifest number)) (temporary : ℕ) (fit : IsFileName (Temp temporary)) (later : State) (at : ChangesAmong dir (switched_names number temporary) d later)
-    (current : IsWholeFile later (path_in dir Current) (current_text number)) (has : HasEdits later dir (switched_kept number len next known before) edits)
-    (manifest_alone : IsAlone later (path_in dir (Manifest number))) (are_known : AreKnown later dir (switched_kept number len next known before))
+module _ (d : State) (dir : List ℕ) (before : Kept) (was : Parts) (sane : Sane d dir before was) (number len next : ℕ)
+    (known : List FileName) (edits : List Edit)
+    (numbered : IsFileName (Manifest number)) (temporary : ℕ) (fit : IsFileName (Temp temporary)) (later : State)
+    (at : ChangesAmong dir (switched_names number temporary) d later)
+    (current : IsWholeFile later (path_in dir Current) (current_text number))
+    (has : HasEdits later dir (switched_kept number len next known before) edits)
+    (manifest_alone : IsAlone later (path_in dir (Manifest number)))
+    (are_known : AreKnown later dir (switched_kept number len next known before))
     (quiet : IsQuiet later dir (switched_kept number len next known before)) where
   abbrev names : List FileName
   names = switched_names number temporary
@@ -188,16 +215,19 @@ module _ (d : State) (dir : List ℕ) (before : Kept) (was : Parts) (sane : Sane
   last = was.last.number
 
   each_name : (P : FileName → Type 0) → P (Manifest number) → P (Temp temporary) → P Current → All P (switched_names number temporary)
-  each_name P manifest temp now = All-cons P (Manifest number) (Temp temporary ∷ Current ∷ []) manifest (All-cons P (Temp temporary) (Current ∷ []) temp (All-cons P Current [] now (All-nil P)))
+  each_name P manifest temp now = All-cons P (Manifest number) (Temp temporary ∷ Current ∷ []) manifest
+      (All-cons P (Temp temporary) (Current ∷ []) temp (All-cons P Current [] now (All-nil P)))
 
   fits : All IsFileName (switched_names number temporary)
   fits = each_name IsFileName numbered fit tt
 
   log_elsewhere : (n : ℕ) → IsFileName (Log n) → IsElsewhere dir (switched_names number temporary) (path_in dir (Log n))
-  log_elsewhere n is = name_elsewhere dir named names fits d later at (Log n) is (each_name (λ (m : FileName). Log n ≢ m) (λ same. cc) (λ same. cc) (λ same. cc))
+  log_elsewhere n is = name_elsewhere dir named names fits d later at (Log n) is
+      (each_name (λ (m : FileName). Log n ≢ m) (λ same. cc) (λ same. cc) (λ same. cc))
 
   table_elsewhere : (n : ℕ) → IsElsewhere dir (switched_names number temporary) (path_in dir (Table n))
-  table_elsewhere n = each_name (λ (m : FileName). path_in dir (Table n) ≢ path_in dir m) (manifest_apart dir n number numbered) (temp_apart dir n temporary) (table_no_current dir n)
+  table_elsewhere n = each_name (λ (m : FileName). path_in dir (Table n) ≢ path_in dir m)
+      (manifest_apart dir n number numbered) (temp_apart dir n temporary) (table_no_current dir n)
 
   same_tables : tables_after was.edits ≡ tables_after edits
   same_tables = sym sane.edits.version ∙ has.version
@@ -214,24 +244,28 @@ module _ (d : State) (dir : List ℕ) (before : Kept) (was : Parts) (sane : Sane
   }
 
   only_still : (n : ℕ) → IsFileName (Log n) → MayStand d dir before n → MayStand later dir before n
-  only_still n is may = ⊎_elim (λ among. inl among) (λ free. inr (file_among dir names d later at (path_in dir (Log n)) (log_elsewhere n is) ∙ free)) may
+  only_still n is may = ⊎_elim (λ among. inl among) (λ free. inr
+      (file_among dir names d later at (path_in dir (Log n)) (log_elsewhere n is) ∙ free)) may
 
   last_fits : IsFileName (Log was.last.number)
   last_fits = (last_is d dir before was (readable d dir before was sane).logs).1
 
   others : All (λ (log : LogPart). IsElsewhere dir (switched_names number temporary) (path_in dir (Log log.number))) was.older
-  others = All-weaker (IsOlder before last) (λ (log : LogPart). IsElsewhere dir names (path_in dir (Log log.number))) (λ log older. log_elsewhere log.number older.0) was.older
+  others = All-weaker (IsOlder before last) (λ (log : LogPart). IsElsewhere dir names (path_in dir (Log log.number)))
+      (λ log older. log_elsewhere log.number older.0) was.older
       (older_are d dir before was (readable d dir before was sane).logs)
 
   abbrev table_path : Unfinished → List ℕ
   table_path table = path_in dir (Table table.number)
 
-  hand_alone : (begun : Option Begun) (hand : Option FileName) → RestoreBuilds d dir begun hand → All (IsAlone d) (in_hand begun hand) → All (IsAlone later) (in_hand begun hand)
+  hand_alone : (begun : Option Begun) (hand : Option FileName) → RestoreBuilds d dir begun hand
+      → All (IsAlone d) (in_hand begun hand) → All (IsAlone later) (in_hand begun hand)
   hand_alone None hand builds are = All-nil (IsAlone later)
   hand_alone (Some begun) None builds are = All-nil (IsAlone later)
   hand_alone (Some begun) (Some name) builds are =
       All-cons (IsAlone later) (path_in begun.folder name) []
-      (at.alone (path_in begun.folder name) (folder_elsewhere dir named names fits d later at begun.folder (spelled name) builds.apart) (All-head (IsAlone d) (path_in begun.folder name) [] are))
+      (at.alone (path_in begun.folder name) (folder_elsewhere dir named names fits d later at begun.folder
+      (spelled name) builds.apart) (All-head (IsAlone d) (path_in begun.folder name) [] are))
       (All-nil (IsAlone later))
 
   alone : All (IsAlone later) (appended_to dir (switched_kept number len next known before) was.last.number)
@@ -240,7 +274,8 @@ module _ (d : State) (dir : List ℕ) (before : Kept) (was : Parts) (sane : Sane
       let log : List ℕ = path_in dir (Log was.last.number) in
       let rest : List (List ℕ) = map table_path before.unfinished ++ in_hand before.begun before.hand in
       let logs : All (IsAlone d) (log ∷ rest) = All-tail (IsAlone d) old (log ∷ rest) sane.written.alone in
-      let ends = both_all (IsAlone d) table_path before.unfinished (in_hand before.begun before.hand) (All-tail (IsAlone d) log rest logs) in
+      let ends = both_all (IsAlone d) table_path before.unfinished (in_hand before.begun before.hand)
+      (All-tail (IsAlone d) log rest logs) in
       All-cons (IsAlone later) (path_in dir (Manifest number)) (log ∷ rest) manifest_alone
       (All-cons (IsAlone later) log rest (at.alone log (log_elsewhere was.last.number last_fits) (All-head (IsAlone d) log rest logs))
       (All-append (IsAlone later) (map table_path before.unfinished) (in_hand before.begun before.hand)
@@ -253,7 +288,8 @@ module _ (d : State) (dir : List ℕ) (before : Kept) (was : Parts) (sane : Sane
   switched_sane = record {
     current = record {
       named = named;
-      folder = kept_name_among dir names d later at dir (dir_elsewhere dir named names fits d later at) (Some Folder_node) sane.current.folder;
+      folder = kept_name_among dir names d later at dir (dir_elsewhere dir named names fits d later at)
+          (Some Folder_node) sane.current.folder;
       numbered = numbered;
       file = current;
     };
@@ -273,20 +309,25 @@ module _ (d : State) (dir : List ℕ) (before : Kept) (was : Parts) (sane : Sane
       numbers = sane.logs.numbers;
       ascend = sane.logs.ascend;
       live = sane.logs.live;
-      older = subst (λ (k : ℕ). AreSynced later dir (k + 1) was.older) same_last (synced_among dir named names fits d later at (first_logged was) was.older others sane.logs.older);
-      last = subst (λ (k : ℕ). IsWal later (path_in dir (Log was.last.number)) (in_sequence (sequence_after (k + 1) (batches_in was.older)) was.last.batches) was.synced) same_last
+      older = subst (λ (k : ℕ). AreSynced later dir (k + 1) was.older) same_last
+          (synced_among dir named names fits d later at (first_logged was) was.older others sane.logs.older);
+      last = subst (λ (k : ℕ). IsWal later (path_in dir (Log was.last.number))
+          (in_sequence (sequence_after (k + 1) (batches_in was.older)) was.last.batches) was.synced) same_last
           (wal_among dir named names fits d later at was.last.number _ _ (log_elsewhere was.last.number last_fits) sane.logs.last);
       only = λ n least is. only_still n is (sane.logs.only n least is);
       frozen = subst (λ (k : ℕ). AreRowsOf (k + 1) (batches_in was.older) before.frozen) same_last sane.logs.frozen;
-      active = subst (λ (k : ℕ). AreRowsOf (sequence_after (k + 1) (batches_in was.older)) was.last.batches before.active) same_last sane.logs.active;
+      active = subst (λ (k : ℕ). AreRowsOf (sequence_after (k + 1)
+          (batches_in was.older)) was.last.batches before.active) same_last sane.logs.active;
     };
     quiet = quiet;
     known = are_known;
     files = files_among dir named names fits d later at sane.files;
     lawful = lawful;
     written = record {
-      tables = All-weaker (λ (table : Unfinished). bytes_at (tree_now d) (table_path table) ≡ Some table.bytes) (λ (table : Unfinished). bytes_at (tree_now later) (table_path table) ≡ Some table.bytes)
-          (λ table held. bytes_among dir names d later at (table_path table) (table_elsewhere table.number) table.bytes held) before.unfinished sane.written.tables;
+      tables = All-weaker (λ (table : Unfinished). bytes_at (tree_now d) (table_path table) ≡ Some table.bytes)
+          (λ (table : Unfinished). bytes_at (tree_now later) (table_path table) ≡ Some table.bytes)
+          (λ table held. bytes_among dir names d later at (table_path table)
+          (table_elsewhere table.number) table.bytes held) before.unfinished sane.written.tables;
       alone = alone;
     };
     restored = restored_among dir named names fits d later at sane.files before.begun before.hand sane.restored;
@@ -294,21 +335,26 @@ module _ (d : State) (dir : List ℕ) (before : Kept) (was : Parts) (sane : Sane
 
 -- ---- the known names
 
-module _ (d later : State) (dir : List ℕ) (before : Kept) (named : is_folder_name dir ≡ true) (number temporary : ℕ) (numbered : IsFileName (Manifest number)) (fit : IsFileName (Temp temporary))
-    (at : ChangesAmong dir (switched_names number temporary) d later) (was : AreKnown d dir before) (had : Contains before.known Current) (fresh : ¬ Contains before.known (Temp temporary))
+module _ (d later : State) (dir : List ℕ) (before : Kept) (named : is_folder_name dir ≡ true) (number temporary : ℕ)
+    (numbered : IsFileName (Manifest number)) (fit : IsFileName (Temp temporary))
+    (at : ChangesAmong dir (switched_names number temporary) d later) (was : AreKnown d dir before)
+    (had : Contains before.known Current) (fresh : ¬ Contains before.known (Temp temporary))
     (manifest : is_some (file_at later (path_in dir (Manifest number))) ≡ true) (now : is_some (file_at later (path_in dir Current)) ≡ true)
     (gone : finmap.get (names_now later) (path_in dir (Temp temporary)) ≡ None) where
   abbrev all : List FileName
   all = before.known ++ Manifest number ∷ []
 
-  apart : (name : FileName) → path_in dir name ≢ path_in dir (Manifest number) → path_in dir name ≢ path_in dir (Temp temporary) → path_in dir name ≢ path_in dir Current
+  apart : (name : FileName) → path_in dir name ≢ path_in dir (Manifest number)
+      → path_in dir name ≢ path_in dir (Temp temporary) → path_in dir name ≢ path_in dir Current
       → IsElsewhere dir (switched_names number temporary) (path_in dir name)
   apart name a b c =
       All-cons (λ (m : FileName). path_in dir name ≢ path_in dir m) (Manifest number) (Temp temporary ∷ Current ∷ []) a
       (All-cons (λ (m : FileName). path_in dir name ≢ path_in dir m) (Temp temporary) (Current ∷ []) b
-      (All-cons (λ (m : FileName). path_in dir name ≢ path_in dir m) Current [] c (All-nil (λ (m : FileName). path_in dir name ≢ path_in dir m))))
+      (All-cons (λ (m : FileName). path_in dir name ≢ path_in dir m) Current [] c
+      (All-nil (λ (m : FileName). path_in dir name ≢ path_in dir m))))
 
-  stands_still : (name : FileName) → IsFileName name → Contains before.known name → is_some (file_at d (path_in dir name)) ≡ true → is_some (file_at later (path_in dir name)) ≡ true
+  stands_still : (name : FileName) → IsFileName name → Contains before.known name
+      → is_some (file_at d (path_in dir name)) ≡ true → is_some (file_at later (path_in dir name)) ≡ true
   stands_still name is old there = ⊎_elim
       (λ same. ap (λ (p : List ℕ). is_some (file_at later p)) same ∙ manifest)
       (λ a. ⊎_elim
@@ -322,12 +368,15 @@ module _ (d later : State) (dir : List ℕ) (before : Kept) (named : is_folder_n
 
   known_still : (name : FileName) → IsFileName name → is_some (finmap.get (names_now later) (path_in dir name)) ≡ true → Contains all name
   known_still name is there = ⊎_elim
-      (λ same. subst (Contains all) (sym (same_name dir (Manifest number) named numbered name is same)) (Contains-push before.known (Manifest number)))
+      (λ same. subst (Contains all) (sym (same_name dir (Manifest number) named numbered name is same))
+      (Contains-push before.known (Manifest number)))
       (λ a. ⊎_elim
       (λ same. let clash : false ≡ true = ap is_some (sym gone ∙ ap (finmap.get (names_now later)) (sym same)) ∙ there in absurd (cc))
       (λ b. ⊎_elim
-      (λ same. Contains-append_left before.known (Manifest number ∷ []) name (subst (Contains before.known) (sym (same_name dir Current named tt name is same)) had))
-      (λ c. Contains-append_left before.known (Manifest number ∷ []) name (was.all name is (ap is_some (sym (at.now (path_in dir name) (apart name a b c))) ∙ there)))
+      (λ same. Contains-append_left before.known (Manifest number ∷ []) name
+      (subst (Contains before.known) (sym (same_name dir Current named tt name is same)) had))
+      (λ c. Contains-append_left before.known (Manifest number ∷ []) name
+      (was.all name is (ap is_some (sym (at.now (path_in dir name) (apart name a b c))) ∙ there)))
       (path_cases (path_in dir name) (path_in dir Current)))
       (path_cases (path_in dir name) (path_in dir (Temp temporary))))
       (path_cases (path_in dir name) (path_in dir (Manifest number)))

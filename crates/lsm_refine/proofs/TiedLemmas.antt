@@ -26,32 +26,40 @@ use Rattle.lsm_rows.proofs.Replaying.{sequence_both, replayed_both}
 
 -- ---- rows of tables are older than those of logs
 
-rows_before : (last : ℕ) (rows : ℕ → List Row) (es : List (ℕ × Placed)) → T (is_sorted nat_cmp es) → ((number : ℕ) (placed : Placed) → finmap.find nat_cmp number es ≡ Some placed → IsAsListed placed.info (rows number) last)
+rows_before : (last : ℕ) (rows : ℕ → List Row) (es : List (ℕ × Placed)) → T (is_sorted nat_cmp es)
+    → ((number : ℕ) (placed : Placed) → finmap.find nat_cmp number es ≡ Some placed → IsAsListed placed.info (rows number) last)
     → AllBefore (last + 1) (flat_map (λ (table : ℕ × Placed). rows table.0) es)
 rows_before last rows [] sorted each = All-nil (λ (row : Row). row.sequence < last + 1)
 rows_before last rows (e ∷ es) sorted each =
     let parts = all_below (below_all nat_cmp e.0 es) (is_sorted nat_cmp es) sorted in
     let here = each e.0 e.1 (found_first e es) in
     All-append (λ (row : Row). row.sequence < last + 1) (rows e.0) (flat_map (λ (table : ℕ × Placed). rows table.0) es)
-    (All-weaker (λ (row : Row). (1 ≤ row.sequence) × (row.sequence ≤ last)) (λ (row : Row). row.sequence < last + 1) (λ row fits. omega (arith, fits.1)) (rows e.0) here.sequences)
+    (All-weaker (λ (row : Row). (1 ≤ row.sequence) × (row.sequence ≤ last)) (λ (row : Row). row.sequence < last + 1)
+    (λ row fits. omega (arith, fits.1)) (rows e.0) here.sequences)
     (rows_before last rows es parts.1 (λ number placed is. each number placed (found_later e es number placed parts.0 is)))
 
-pub tables_before : (parts : Parts) → AreLawful parts.edits parts.rows → AllBefore (first_logged parts) (rows_of_tables (tables_after parts.edits) parts.rows)
+pub tables_before : (parts : Parts) → AreLawful parts.edits parts.rows
+    → AllBefore (first_logged parts) (rows_of_tables (tables_after parts.edits) parts.rows)
 tables_before parts are =
-    rows_before (last_after parts.edits) parts.rows (finmap.entries (tables_after parts.edits)) (finmap.entries_sorted (tables_after parts.edits))
+    rows_before (last_after parts.edits) parts.rows (finmap.entries (tables_after parts.edits))
+    (finmap.entries_sorted (tables_after parts.edits))
     (λ number placed is. are.listed number placed (finmap.get-entries (tables_after parts.edits) number ∙ is))
 
 -- ---- batches of several lists
 
-pub all_with : (older : List LogPart) (batches : List (List Op)) → all_of (map (λ (log : LogPart). log.batches) older ++ batches ∷ []) ≡ batches_in older ++ batches
+pub all_with : (older : List LogPart) (batches : List (List Op))
+    → all_of (map (λ (log : LogPart). log.batches) older ++ batches ∷ []) ≡ batches_in older ++ batches
 all_with [] batches = append-nil batches
-all_with (log ∷ logs) batches = ap (λ (l : List (List Op)). log.batches ++ l) (all_with logs batches) ∙ sym (append_assoc log.batches (batches_in logs) batches)
+all_with (log ∷ logs) batches = ap (λ (l : List (List Op)). log.batches ++ l) (all_with logs batches) ∙ sym
+    (append_assoc log.batches (batches_in logs) batches)
 
 -- how many batches there are, in tables, in older logs and in the last one
-pub logged_many : (parts : Parts) (s : State) (tied : Tied parts s) → tied.flushed + (length (batches_in parts.older) + length parts.last.batches) ≡ length s.accepted
+pub logged_many : (parts : Parts) (s : State) (tied : Tied parts s)
+    → tied.flushed + (length (batches_in parts.older) + length parts.last.batches) ≡ length s.accepted
 logged_many parts s tied =
     let many : length (batches_in parts.older) + length parts.last.batches ≡ length s.accepted - tied.flushed =
-    sym (length-append (batches_in parts.older) parts.last.batches) ∙ ap (λ (l : List (List Op)). length l) tied.above ∙ length-drop tied.flushed s.accepted in
+    sym (length-append (batches_in parts.older) parts.last.batches) ∙ ap
+    (λ (l : List (List Op)). length l) tied.above ∙ length-drop tied.flushed s.accepted in
     omega (arith, many, tied.within)
 
 -- ---- the law
@@ -75,14 +83,17 @@ module _ (parts : Parts) (s : State) (are : AreLawful parts.edits parts.rows) (t
       ap (λ (l : List (List Op)). take tied.flushed s.accepted ++ l) some_is
       ∙ sym (take-add tied.flushed (older + kept) s.accepted)
 
-  contents_are : contents_of (rows_of_all parts.edits parts.rows (batches_with parts some)) ≡ replayed s.opening (take (tied.flushed + (older + kept)) s.accepted)
+  contents_are : contents_of (rows_of_all parts.edits parts.rows (batches_with parts some))
+      ≡ replayed s.opening (take (tied.flushed + (older + kept)) s.accepted)
   contents_are =
-      contents_replayed (rows_of_tables (tables_after parts.edits) parts.rows) (first_logged parts) (all_of (batches_with parts some)) (tables_before parts are)
+      contents_replayed (rows_of_tables (tables_after parts.edits) parts.rows) (first_logged parts)
+      (all_of (batches_with parts some)) (tables_before parts are)
       ∙ ap (λ (m : Contents). replayed m (all_of (batches_with parts some))) tied.below
       ∙ replayed_both s.opening (take tied.flushed s.accepted) (all_of (batches_with parts some))
       ∙ ap (replayed s.opening) front_is
 
-  sequence_is : sequence_after (last_after parts.edits) (all_of (batches_with parts some)) ≡ sequence_after s.began (take (tied.flushed + (older + kept)) s.accepted)
+  sequence_is : sequence_after (last_after parts.edits) (all_of (batches_with parts some))
+      ≡ sequence_after s.began (take (tied.flushed + (older + kept)) s.accepted)
   sequence_is =
       ap (λ (n : ℕ). sequence_after n (all_of (batches_with parts some))) tied.last
       ∙ sequence_both s.began (take tied.flushed s.accepted) (all_of (batches_with parts some))

@@ -25,7 +25,12 @@ module _ (seen : Seen) (halt : Option Halt) (s : State) where
   stands_for tree count is = record { folder = is.folder; stands = is.stands }
 
   stands_from : (least : ℕ) (tree : Tree) → StandsFrom s least tree → StandsFrom t least tree
-  stands_from least tree is = record { count = is.count; enough = is.enough; within = is.within; stands = stands_for tree is.count is.stands }
+  stands_from least tree is = record {
+    count = is.count;
+    enough = is.enough;
+    within = is.within;
+    stands = stands_for tree is.count is.stands;
+  }
 
   module _ (d : disk.State) (v : Shown) where
     abbrev w : Shown
@@ -113,39 +118,52 @@ module _ (v : Shown) (s : State) (good : Good v s) (seen : Seen) (halt : Option 
   abbrev goes_on : Type 0
   goes_on = Good (record v { disk = seen; halt = halt }) (record (with_counts seen s) { halt = halt })
 
-  at_state : (d : disk.State) → d ≡ state_of good.story → state_of later ≡ d → IsInMode halt d (record v { disk = seen; halt = halt }) (record (with_counts seen s) { halt = halt }) → goes_on
+  at_state : (d : disk.State) → d ≡ state_of good.story → state_of later ≡ d
+      → IsInMode halt d (record v { disk = seen; halt = halt }) (record (with_counts seen s) { halt = halt }) → goes_on
   at_state d was now mode = record {
     story = later;
     told = told;
-    mode = subst (λ (e : disk.State). IsInMode halt e (record v { disk = seen; halt = halt }) (record (with_counts seen s) { halt = halt })) (sym now) mode;
+    mode = subst (λ (e : disk.State). IsInMode halt e (record v { disk = seen; halt = halt })
+        (record (with_counts seen s) { halt = halt })) (sym now) mode;
     pinned = subst (λ (e : disk.State). Pinned e v.dir v.kept.pins (record (with_counts seen s) { halt = halt })) (sym now)
         (pinned seen halt s d v (subst (λ (e : disk.State). Pinned e v.dir v.kept.pins s) (sym was) good.pinned));
     folders = subst (λ (e : disk.State). FoldersRead e (record (with_counts seen s) { halt = halt })) (sym now)
         (folders seen halt s d v (subst (λ (e : disk.State). FoldersRead e s) (sym was) good.folders));
     clear = subst AreClearable (sym now) (subst AreClearable (sym was) good.clear);
-    counted = record { durable = good.counted.durable; numbers = good.counted.numbers; fronts = good.counted.fronts; begun = good.counted.begun };
+    counted = record {
+      durable = good.counted.durable;
+      numbers = good.counted.numbers;
+      fronts = good.counted.fronts;
+      begun = good.counted.begun;
+    };
     kept = kept_is seen halt s d v good.kept;
     counts = record { faults = refl; refusals = refl };
   }
 
 -- a store with another disk and halting call
-same_shown : (v w : Shown) (halt : Option Halt) → w.dir ≡ v.dir → w.kept ≡ v.kept → w.halt ≡ halt → record v { disk = w.disk; halt = halt } ≡ w
+same_shown : (v w : Shown) (halt : Option Halt) → w.dir ≡ v.dir → w.kept ≡ v.kept → w.halt ≡ halt
+    → record v { disk = w.disk; halt = halt } ≡ w
 same_shown v w halt dir kept halts = λ j. record { disk = w.disk; dir = sym dir j; kept = sym kept j; halt = sym halts j }
 
 -- the store with the views of another
 abbrev other_views : Shown → Shown → Shown
 other_views v w = record v { kept = record v.kept { views = w.kept.views } }
 
-pub unchanged_good : (v w : Shown) (s : State) (good : Good v s) → IsUnchanged good.story v w → w.halt ≡ v.halt → Good w (with_counts w.disk s)
+pub unchanged_good : (v w : Shown) (s : State) (good : Good v s) → IsUnchanged good.story v w → w.halt ≡ v.halt
+    → Good w (with_counts w.disk s)
 unchanged_good v w s good is same =
     let views = viewed_good v s good w.kept.views is.views in
-    let goes = at_state (other_views v w) s views w.disk v.halt is.later is.told (state_of good.story) refl is.state (in_mode w.disk v.halt s (state_of good.story) (other_views v w) views.mode) in
+    let goes = at_state (other_views v w) s views w.disk v.halt is.later is.told (state_of good.story) refl is.state
+    (in_mode w.disk v.halt s (state_of good.story) (other_views v w) views.mode) in
     subst (λ (x : Shown). Good x (with_counts w.disk s)) (same_shown (other_views v w) w v.halt is.dir is.kept same)
-    (subst (λ (h : Option Halt). Good (record (other_views v w) { disk = w.disk; halt = v.halt }) (record (with_counts w.disk s) { halt = h })) good.kept.halt goes)
+    (subst (λ (h : Option Halt). Good (record (other_views v w) { disk = w.disk; halt = v.halt })
+    (record (with_counts w.disk s) { halt = h })) good.kept.halt goes)
 
-pub halted_good : (v w : Shown) (s : State) (first : Halt) (good : Good v s) → IsUnchanged good.story v w → v.halt ≡ None → w.halt ≡ Some first → Good w (stopped first (with_counts w.disk s))
+pub halted_good : (v w : Shown) (s : State) (first : Halt) (good : Good v s) → IsUnchanged good.story v w → v.halt ≡ None
+    → w.halt ≡ Some first → Good w (stopped first (with_counts w.disk s))
 halted_good v w s first good is none same =
     let views = viewed_good v s good w.kept.views is.views in
-    let mode = halts w.disk (Some first) s (state_of good.story) (other_views v w) good.kept.own (subst (λ (h : Option Halt). IsInMode h (state_of good.story) (other_views v w) s) none views.mode) in
+    let mode = halts w.disk (Some first) s (state_of good.story) (other_views v w) good.kept.own
+    (subst (λ (h : Option Halt). IsInMode h (state_of good.story) (other_views v w) s) none views.mode) in
     subst (λ (x : Shown). Good x (stopped first (with_counts w.disk s))) (same_shown (other_views v w) w (Some first) is.dir is.kept same)
     (at_state (other_views v w) s views w.disk (Some first) is.later is.told (state_of good.story) refl is.state mode)

@@ -52,26 +52,31 @@ last_step s t last step = step
 -- ---- a pin less
 
 -- the other pins hold no further names
-held_less : (number : ℕ) (pins : List KeptPin) (name : FileName) → Contains (flat_map names_held (without_kept number pins)) name → Contains (flat_map names_held pins) name
+held_less : (number : ℕ) (pins : List KeptPin) (name : FileName)
+    → Contains (flat_map names_held (without_kept number pins)) name → Contains (flat_map names_held pins) name
 held_less number [] name among = among
-held_less number (pin ∷ pins) name among = elim (pin.number == number) as (λ b. Contains (flat_map names_held (cond b (without_kept number pins) (pin ∷ without_kept number pins))) name → Contains (names_held pin ++ flat_map names_held pins) name) [
-  | true ↦ λ less. Contains-append_right (names_held pin) (flat_map names_held pins) name (held_less number pins name less)
-  | false ↦ λ less. ⊎_elim
-      (λ here. Contains-append_left (names_held pin) (flat_map names_held pins) name here)
-      (λ later. Contains-append_right (names_held pin) (flat_map names_held pins) name (held_less number pins name later))
-      (Contains-append_cases (names_held pin) (flat_map names_held (without_kept number pins)) name less)
-] among
+held_less number (pin ∷ pins) name among = elim (pin.number == number) as
+    (λ b. Contains (flat_map names_held (cond b (without_kept number pins) (pin ∷ without_kept number pins))) name
+    → Contains (names_held pin ++ flat_map names_held pins) name) [
+      | true ↦ λ less. Contains-append_right (names_held pin) (flat_map names_held pins) name (held_less number pins name less)
+      | false ↦ λ less. ⊎_elim
+          (λ here. Contains-append_left (names_held pin) (flat_map names_held pins) name here)
+          (λ later. Contains-append_right (names_held pin) (flat_map names_held pins) name (held_less number pins name later))
+          (Contains-append_cases (names_held pin) (flat_map names_held (without_kept number pins)) name less)
+    ] among
 
 abbrev dirs : List KeptPin → List (List ℕ)
 dirs pins = flat_map (λ (pin : KeptPin). dir_of pin.job) pins
 
 -- what all their folders are
-every_less : (P : List ℕ → Type 0) (number : ℕ) (pins : List KeptPin) → AllByRecursion P (dirs pins) → AllByRecursion P (dirs (without_kept number pins))
+every_less : (P : List ℕ → Type 0) (number : ℕ) (pins : List KeptPin) → AllByRecursion P (dirs pins)
+    → AllByRecursion P (dirs (without_kept number pins))
 every_less P number [] are = are
-every_less P number (pin ∷ pins) are = elim (pin.number == number) as (λ b. AllByRecursion P (dirs (cond b (without_kept number pins) (pin ∷ without_kept number pins)))) [
-  | true ↦ every_less P number pins (rest pin.job are)
-  | false ↦ both pin.job are (every_less P number pins (rest pin.job are))
-]
+every_less P number (pin ∷ pins) are = elim (pin.number == number) as
+    (λ b. AllByRecursion P (dirs (cond b (without_kept number pins) (pin ∷ without_kept number pins)))) [
+      | true ↦ every_less P number pins (rest pin.job are)
+      | false ↦ both pin.job are (every_less P number pins (rest pin.job are))
+    ]
   where
     rest : (job : Option Job) → AllByRecursion P (dir_of job ++ dirs pins) → AllByRecursion P (dirs pins)
     rest None all = all
@@ -85,10 +90,11 @@ every_less P number (pin ∷ pins) are = elim (pin.number == number) as (λ b. A
 -- no two of them build one folder
 apart_less : (number : ℕ) (pins : List KeptPin) → IsDistinct bytes_eq (dirs pins) → IsDistinct bytes_eq (dirs (without_kept number pins))
 apart_less number [] apart = apart
-apart_less number (pin ∷ pins) apart = elim (pin.number == number) as (λ b. IsDistinct bytes_eq (dirs (cond b (without_kept number pins) (pin ∷ without_kept number pins)))) [
-  | true ↦ apart_less number pins (rest pin.job apart)
-  | false ↦ both pin.job apart (apart_less number pins (rest pin.job apart))
-]
+apart_less number (pin ∷ pins) apart = elim (pin.number == number) as
+    (λ b. IsDistinct bytes_eq (dirs (cond b (without_kept number pins) (pin ∷ without_kept number pins)))) [
+      | true ↦ apart_less number pins (rest pin.job apart)
+      | false ↦ both pin.job apart (apart_less number pins (rest pin.job apart))
+    ]
   where
     rest : (job : Option Job) → IsDistinct bytes_eq (dir_of job ++ dirs pins) → IsDistinct bytes_eq (dirs pins)
     rest None all = all
@@ -103,24 +109,28 @@ apart_less number (pin ∷ pins) apart = elim (pin.number == number) as (λ b. I
 
 all_less : (P : Pin → Type 0) (number : ℕ) (pins : List Pin) → All P pins → All P (without_pin number pins)
 all_less P number [] are = are
-all_less P number (pin ∷ pins) are = elim (pin.number == number) as (λ b. All P (cond b (without_pin number pins) (pin ∷ without_pin number pins))) [
-  | true ↦ all_less P number pins (All-tail P pin pins are)
-  | false ↦ All-cons P pin (without_pin number pins) (All-head P pin pins are) (all_less P number pins (All-tail P pin pins are))
-]
+all_less P number (pin ∷ pins) are = elim (pin.number == number) as
+    (λ b. All P (cond b (without_pin number pins) (pin ∷ without_pin number pins))) [
+      | true ↦ all_less P number pins (All-tail P pin pins are)
+      | false ↦ All-cons P pin (without_pin number pins) (All-head P pin pins are) (all_less P number pins (All-tail P pin pins are))
+    ]
 
 module _ (s : State) (number : ℕ) where
   -- the others fit still
-  each_less : (Fits : KeptPin → Pin → Type 0) (kept : List KeptPin) (pins : List Pin) → ArePins (IsKeptPin s) kept pins → ArePins Fits kept pins
+  each_less : (Fits : KeptPin → Pin → Type 0) (kept : List KeptPin) (pins : List Pin) → ArePins (IsKeptPin s) kept pins
+      → ArePins Fits kept pins
       → ArePins Fits (without_kept number kept) (without_pin number pins)
   each_less Fits [] [] are fit = tt
   each_less Fits [] (pin ∷ pins) are fit = absurd are
   each_less Fits (k ∷ kept) [] are fit = absurd are
   each_less Fits (k ∷ kept) (pin ∷ pins) are fit =
-      subst (λ (n : ℕ). ArePins Fits (cond (n == number) (without_kept number kept) (k ∷ without_kept number kept)) (cond (pin.number == number) (without_pin number pins) (pin ∷ without_pin number pins)))
+      subst (λ (n : ℕ). ArePins Fits (cond (n == number) (without_kept number kept) (k ∷ without_kept number kept))
+      (cond (pin.number == number) (without_pin number pins) (pin ∷ without_pin number pins)))
       (sym are.0.number) (by (each_less Fits kept pins are.1 fit.1) (pin.number == number))
     where
       by : ArePins Fits (without_kept number kept) (without_pin number pins) → (b : Bool)
-          → ArePins Fits (cond b (without_kept number kept) (k ∷ without_kept number kept)) (cond b (without_pin number pins) (pin ∷ without_pin number pins))
+          → ArePins Fits (cond b (without_kept number kept) (k ∷ without_kept number kept))
+          (cond b (without_pin number pins) (pin ∷ without_pin number pins))
       by less true = less
       by less false = (fit.0, less)
 
@@ -129,12 +139,14 @@ module _ (s : State) (number : ℕ) where
   no_job (Some job) = refl
 
   -- a pin is its caller's own exactly where the kept one is
-  own_same : (kept : List KeptPin) (pins : List Pin) → ArePins (IsKeptPin s) kept pins → is_own (pin_of number pins) ≡ is_own_kept (kept_pin_of number kept)
+  own_same : (kept : List KeptPin) (pins : List Pin) → ArePins (IsKeptPin s) kept pins
+      → is_own (pin_of number pins) ≡ is_own_kept (kept_pin_of number kept)
   own_same [] [] are = refl
   own_same [] (pin ∷ pins) are = absurd are
   own_same (k ∷ kept) [] are = absurd are
   own_same (k ∷ kept) (pin ∷ pins) are =
-      by (own_same kept pins are.1) (pin.number == number) ∙ ap (λ (n : ℕ). is_own_kept (cond (n == number) (Some k) (kept_pin_of number kept))) (sym are.0.number)
+      by (own_same kept pins are.1) (pin.number == number) ∙ ap
+      (λ (n : ℕ). is_own_kept (cond (n == number) (Some k) (kept_pin_of number kept))) (sym are.0.number)
     where
       by : is_own (pin_of number pins) ≡ is_own_kept (kept_pin_of number kept) → (b : Bool)
           → is_own (cond b (Some pin) (pin_of number pins)) ≡ is_own_kept (cond b (Some k) (kept_pin_of number kept))
@@ -176,7 +188,8 @@ module _ (v : Shown) (s : State) (good : Good v s) where
     less_is = λ j. record s { pins = without_pin number s.pins; greatest_pin = good.kept.greatest_pin j; disables = good.kept.disables j }
 
     fits : ArePins (IsKeptPin less) kept_less (without_pin number s.pins)
-    fits = pins_alike s less refl refl refl kept_less (without_pin number s.pins) (each_less s number (IsKeptPin s) v.kept.pins s.pins good.pinned.pins good.pinned.pins)
+    fits = pins_alike s less refl refl refl kept_less (without_pin number s.pins)
+        (each_less s number (IsKeptPin s) v.kept.pins s.pins good.pinned.pins good.pinned.pins)
 
     counted : IsCounted less
     counted = record {
@@ -201,15 +214,24 @@ module _ (v : Shown) (s : State) (good : Good v s) where
         repinned_good v s kept_less (without_pin number s.pins) v.kept.greatest_pin v.kept.disables good fits
         (all_less (λ (pin : Pin). PinFiles d v.dir pin.files) number s.pins good.pinned.files) counted runs_less
 
-    own_is : (b : Bool) → is_own_kept (kept_pin_of number v.kept.pins) ≡ b → no_own_pin number s ≡ refused_if (not b) (error.NoSuchPin number)
-    own_is b is = ap (λ (c : Bool). refused_if (not c) (error.NoSuchPin number)) (own_same s number v.kept.pins s.pins good.pinned.pins ∙ is)
+    own_is : (b : Bool) → is_own_kept (kept_pin_of number v.kept.pins) ≡ b
+        → no_own_pin number s ≡ refused_if (not b) (error.NoSuchPin number)
+    own_is b is = ap (λ (c : Bool). refused_if (not c) (error.NoSuchPin number))
+        (own_same s number v.kept.pins s.pins good.pinned.pins ∙ is)
 
-    pub unpin_ok : is_own_kept (kept_pin_of number v.kept.pins) ≡ true → Steps s (event.Unpin number) (reply.Unpin (Ok tt)) (unpinned_shown number v)
+    pub unpin_ok : is_own_kept (kept_pin_of number v.kept.pins) ≡ true
+        → Steps s (event.Unpin number) (reply.Unpin (Ok tt)) (unpinned_shown number v)
     unpin_ok own = (less, unpin_step s less number (Ok tt) (Done tt refl (own_is true own) less_is), unpinned_good)
 
     -- no such pin lives that is the caller's own
-    pub unpin_unknown : is_own_kept (kept_pin_of number v.kept.pins) ≡ false → Steps s (event.Unpin number) (reply.Unpin (Err (error.NoSuchPin number))) v
-    unpin_unknown none = (s, unpin_step s s number (Err (error.NoSuchPin number)) (Refused (error.NoSuchPin number) refl (own_is false none) refl), good)
+    pub unpin_unknown : is_own_kept (kept_pin_of number v.kept.pins) ≡ false
+        → Steps s (event.Unpin number) (reply.Unpin (Err (error.NoSuchPin number))) v
+    unpin_unknown none = (
+      s,
+      unpin_step s s number (Err (error.NoSuchPin number))
+          (Refused (error.NoSuchPin number) refl (own_is false none) refl),
+      good,
+    )
 
   -- ---- disables
 
@@ -222,7 +244,8 @@ module _ (v : Shown) (s : State) (good : Good v s) where
 
     disabled_good : Good (disabled_shown count v) counting
     disabled_good =
-        repinned_good v s v.kept.pins s.pins v.kept.greatest_pin count good (pins_alike s counting refl refl refl v.kept.pins s.pins good.pinned.pins) good.pinned.files
+        repinned_good v s v.kept.pins s.pins v.kept.greatest_pin count good
+        (pins_alike s counting refl refl refl v.kept.pins s.pins good.pinned.pins) good.pinned.files
         (record {
           durable = good.counted.durable;
           numbers = subst (λ (n : ℕ). All (λ (pin : Pin). pin.number ≤ n) s.pins) (sym good.kept.greatest_pin) good.counted.numbers;
@@ -235,16 +258,19 @@ module _ (v : Shown) (s : State) (good : Good v s) where
     enable_ok more = (
       counting,
       enable_step s counting (Ok count) (Done count refl
-          (ap (λ (b : Bool). refused_if b error.NotDisabled) (test_some s.disables count (sym good.kept.disables ∙ more))) (sym good.kept.disables ∙ more, counting_is)),
+          (ap (λ (b : Bool). refused_if b error.NotDisabled) (test_some s.disables count (sym good.kept.disables ∙ more)))
+          (sym good.kept.disables ∙ more, counting_is)),
       disabled_good,
     )
 
-  pub disable_ok : v.kept.disables < 1000000 → Steps s event.Disable (reply.Disable (Ok (v.kept.disables + 1))) (disabled_shown (v.kept.disables + 1) v)
+  pub disable_ok : v.kept.disables < 1000000 → Steps s event.Disable (reply.Disable (Ok (v.kept.disables + 1)))
+      (disabled_shown (v.kept.disables + 1) v)
   disable_ok small =
       let count : ℕ = v.kept.disables + 1 in (
         counting count,
         disable_step s (counting count) (Ok count) (Done count refl
-            (ap (λ (b : Bool). refused_if b (error.DisablesFull s.disables)) (test_more s.disables (omega (arith, small, good.kept.disables))))
+            (ap (λ (b : Bool). refused_if b (error.DisablesFull s.disables))
+            (test_more s.disables (omega (arith, small, good.kept.disables))))
             (ap (λ (n : ℕ). n + 1) good.kept.disables, counting_is count)),
         disabled_good count,
       )
@@ -255,7 +281,8 @@ module _ (v : Shown) (s : State) (good : Good v s) where
       subst (λ (n : ℕ). Steps s event.Disable (reply.Disable (Err (error.DisablesFull n))) v) (sym good.kept.disables) (
         s,
         disable_step s s (Err (error.DisablesFull s.disables)) (Refused (error.DisablesFull s.disables) refl
-            (ap (λ (b : Bool). refused_if b (error.DisablesFull s.disables)) (test_all s.disables (omega (arith, full, good.kept.disables)))) refl),
+            (ap (λ (b : Bool). refused_if b (error.DisablesFull s.disables))
+            (test_all s.disables (omega (arith, full, good.kept.disables)))) refl),
         good,
       )
 

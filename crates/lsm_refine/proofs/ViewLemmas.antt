@@ -30,7 +30,8 @@ module _ (d : disk.State) (v : Shown) (views : finmap.FinMap nat_cmp Viewed) (te
   w = record v { kept = k }
 
   -- each view of a live table tells what its file has
-  view_tells : (number : ℕ) (placed : Placed) (rows : List Row) (table : HasTable d v.dir v.kept number placed rows) (view : Viewed) → finmap.get views number ≡ Some view
+  view_tells : (number : ℕ) (placed : Placed) (rows : List Row) (table : HasTable d v.dir v.kept number placed rows)
+      (view : Viewed) → finmap.get views number ≡ Some view
       → view.bytes ≡ Some table.bytes
   view_tells number placed rows table view is = ⊎_elim
       (λ old. table.viewed view old)
@@ -127,7 +128,8 @@ module _ (d : disk.State) (v : Shown) (views : finmap.FinMap nat_cmp Viewed) (te
   in_mode (Some first) s is = halted s is
 
 -- the store with these views is good
-abbrev pub viewed_good : (v : Shown) (s : State) (good : Good v s) (views : finmap.FinMap nat_cmp Viewed) → ViewsTell (state_of good.story) v views
+abbrev pub viewed_good : (v : Shown) (s : State) (good : Good v s) (views : finmap.FinMap nat_cmp Viewed)
+    → ViewsTell (state_of good.story) v views
     → Good (record v { kept = record v.kept { views = views } }) s
 viewed_good v s good views tell = record {
   story = good.story;

@@ -38,12 +38,15 @@ use Rattle.lsm_refine.proofs.OtherFileLemmas.{flat, parts_false, heads, slash_is
 -- where two names have no slash, the first slash is behind each
 pub first_slash : (xs ys a b : List ℕ) → has_slash xs ≡ false → has_slash ys ≡ false → xs ++ 47 ∷ a ≡ ys ++ 47 ∷ b → xs ≡ ys
 first_slash [] [] a b one two same = refl
-first_slash [] (y ∷ ys) a b one two same = absurd (slash_is y (heads 47 y a (ys ++ 47 ∷ b) same).0 (parts_false (y == 47) (has_slash ys) two).0)
-first_slash (x ∷ xs) [] a b one two same = absurd (slash_is x (sym (heads x 47 (xs ++ 47 ∷ a) b same).0) (parts_false (x == 47) (has_slash xs) one).0)
+first_slash [] (y ∷ ys) a b one two same = absurd (slash_is y (heads 47 y a (ys ++ 47 ∷ b) same).0
+    (parts_false (y == 47) (has_slash ys) two).0)
+first_slash (x ∷ xs) [] a b one two same = absurd (slash_is x (sym (heads x 47 (xs ++ 47 ∷ a) b same).0)
+    (parts_false (x == 47) (has_slash xs) one).0)
 first_slash (x ∷ xs) (y ∷ ys) a b one two same =
     let rest = heads x y (xs ++ 47 ∷ a) (ys ++ 47 ∷ b) same in
     ap (λ (n : ℕ). n ∷ xs) rest.0
-    ∙ ap (λ (l : List ℕ). y ∷ l) (first_slash xs ys a b (parts_false (x == 47) (has_slash xs) one).1 (parts_false (y == 47) (has_slash ys) two).1 rest.1)
+    ∙ ap (λ (l : List ℕ). y ∷ l) (first_slash xs ys a b (parts_false (x == 47) (has_slash xs) one).1
+    (parts_false (y == 47) (has_slash ys) two).1 rest.1)
 
 -- what is in a folder is the folder or a path inside
 pub record IsInside (folder path : List ℕ) : Type 0 where
@@ -87,7 +90,8 @@ module _ (folder : List ℕ) (named : is_folder_name folder ≡ true) where
 
     pub path_outside : (rest : List ℕ) → is_in folder (head ++ 47 ∷ rest) ≡ false
     path_outside rest = not_inside (head ++ 47 ∷ rest)
-        (λ place. ⊎_elim (λ same. apart_from folder head rest folder_flat (sym same)) (λ deep. other (first_slash head folder rest deep.0 one folder_flat deep.1)) place.is)
+        (λ place. ⊎_elim (λ same. apart_from folder head rest folder_flat (sym same))
+        (λ deep. other (first_slash head folder rest deep.0 one folder_flat deep.1)) place.is)
 
 -- ---- what stays of a path outside
 
@@ -96,7 +100,8 @@ module _ (folder : List ℕ) (d later : State) (at : ChangesWithin folder d late
   file_stays = ap id_of (at.now path out)
 
   bytes_stay : (held : List ℕ) → bytes_at (tree_now d) path ≡ Some held → bytes_at (tree_now later) path ≡ Some held
-  bytes_stay held is = let found = file_of d path held is in bytes_now later path found.0 found.1 (at.files path found.0 found.1 out found.2) ∙ ap Some found.3
+  bytes_stay held is = let found = file_of d path held is in bytes_now later path found.0 found.1
+      (at.files path found.0 found.1 out found.2) ∙ ap Some found.3
 
   kept_name_stays : (what : Option Node) → IsKeptName d path what → IsKeptName later path what
   kept_name_stays what is k = let was = at.cuts k in was.same path out ∙ is was.count
@@ -112,7 +117,8 @@ module _ (folder : List ℕ) (d later : State) (at : ChangesWithin folder d late
 
 -- ---- the store's own folder
 
-module _ (folder dir : List ℕ) (named : is_folder_name folder ≡ true) (fits : is_folder_name dir ≡ true) (other : folder ≢ dir) (d later : State) (at : ChangesWithin folder d later) where
+module _ (folder dir : List ℕ) (named : is_folder_name folder ≡ true) (fits : is_folder_name dir ≡ true) (other : folder ≢ dir)
+    (d later : State) (at : ChangesWithin folder d later) where
   dir_flat : has_slash dir ≡ false
   dir_flat = flat dir (folder_is_component dir fits)
 
@@ -153,7 +159,8 @@ module _ (folder dir : List ℕ) (named : is_folder_name folder ≡ true) (fits 
         };
   }
 
-  pub wal_within : (number : ℕ) (batches : List Logged) (durable : ℕ) → IsWal d (path_in dir (Log number)) batches durable → IsWal later (path_in dir (Log number)) batches durable
+  pub wal_within : (number : ℕ) (batches : List Logged) (durable : ℕ) → IsWal d (path_in dir (Log number)) batches durable
+      → IsWal later (path_in dir (Log number)) batches durable
   wal_within number batches durable wal = record {
     id = wal.id;
     file = wal.file;
@@ -166,7 +173,11 @@ module _ (folder dir : List ℕ) (named : is_folder_name folder ≡ true) (fits 
 
   synced_within : (first : ℕ) (logs : List LogPart) → AreSynced d dir first logs → AreSynced later dir first logs
   synced_within first [] synced = tt
-  synced_within first (log ∷ logs) synced = (wal_within log.number _ _ synced.0, synced_within (sequence_after first log.batches) logs synced.1)
+  synced_within first (log ∷ logs) synced = (
+    wal_within log.number _ _ synced.0,
+    synced_within
+        (sequence_after first log.batches) logs synced.1,
+  )
 
   pub logs_within : (kept : Kept) (parts : Parts) → HasLogs d dir kept parts → HasLogs later dir kept parts
   logs_within kept parts has = record {
@@ -188,17 +199,26 @@ module _ (folder dir : List ℕ) (named : is_folder_name folder ≡ true) (fits 
 
   pub known_within : (kept : Kept) → AreKnown d dir kept → AreKnown later dir kept
   known_within kept are = record {
-    there = λ name known. let was = are.there name known in (was.0, ap is_some (file_stays folder d later at (path_in dir name) (out name)) ∙ was.1);
+    there = λ name known. let was = are.there name known in (
+      was.0,
+      ap is_some
+          (file_stays folder d later at (path_in dir name) (out name)) ∙ was.1,
+    );
     all = λ name is there. are.all name is (ap is_some (sym (at.now (path_in dir name) (out name))) ∙ there);
   }
 
   pub files_within : AreFiles d dir → AreFiles later dir
-  files_within are = record { no_folder = λ name k is stands. let was = at.cuts k in are.no_folder name was.count is (sym (was.same (path_in dir name) (out name)) ∙ stands) }
+  files_within are = record {
+    no_folder = λ name k is stands. let was = at.cuts k in are.no_folder name was.count is
+        (sym (was.same (path_in dir name) (out name)) ∙ stands);
+  }
 
-  alone_within : (paths : List (List ℕ)) → All (λ (path : List ℕ). is_in folder path ≡ false) paths → All (IsAlone d) paths → All (IsAlone later) paths
+  alone_within : (paths : List (List ℕ)) → All (λ (path : List ℕ). is_in folder path ≡ false) paths → All (IsAlone d) paths
+      → All (IsAlone later) paths
   alone_within paths outside are = λ k default within. at.alone _ (outside k default within) (are k default within)
 
-  tables_outside : (tables : List Unfinished) → All (λ (path : List ℕ). is_in folder path ≡ false) (map (λ (table : Unfinished). path_in dir (Table table.number)) tables ++ [])
+  tables_outside : (tables : List Unfinished) → All (λ (path : List ℕ). is_in folder path ≡ false)
+      (map (λ (table : Unfinished). path_in dir (Table table.number)) tables ++ [])
   tables_outside [] = All-nil (λ (path : List ℕ). is_in folder path ≡ false)
   tables_outside (table ∷ tables) = All-cons (λ (path : List ℕ). is_in folder path ≡ false) (path_in dir (Table table.number))
       (map (λ (t : Unfinished). path_in dir (Table t.number)) tables ++ []) (out (Table table.number)) (tables_outside tables)
@@ -206,14 +226,18 @@ module _ (folder dir : List ℕ) (named : is_folder_name folder ≡ true) (fits 
   all_outside : (kept : Kept) (log : ℕ) → All (λ (path : List ℕ). is_in folder path ≡ false) (appended_to dir (without_restore kept) log)
   all_outside kept log =
       let rest : List (List ℕ) = map (λ (t : Unfinished). path_in dir (Table t.number)) kept.unfinished ++ [] in
-      All-cons (λ (path : List ℕ). is_in folder path ≡ false) (path_in dir (Manifest kept.manifest)) (path_in dir (Log log) ∷ rest) (out (Manifest kept.manifest))
-      (All-cons (λ (path : List ℕ). is_in folder path ≡ false) (path_in dir (Log log)) rest (out (Log log)) (tables_outside kept.unfinished))
+      All-cons (λ (path : List ℕ). is_in folder path ≡ false) (path_in dir (Manifest kept.manifest))
+      (path_in dir (Log log) ∷ rest) (out (Manifest kept.manifest))
+      (All-cons (λ (path : List ℕ). is_in folder path ≡ false) (path_in dir (Log log)) rest (out (Log log))
+      (tables_outside kept.unfinished))
 
-  pub written_within : (kept : Kept) (log : ℕ) → AreWritten d dir (without_restore kept) log → AreWritten later dir (without_restore kept) log
+  pub written_within : (kept : Kept) (log : ℕ) → AreWritten d dir (without_restore kept) log
+      → AreWritten later dir (without_restore kept) log
   written_within kept log are = record {
     tables = All-weaker (λ (table : Unfinished). bytes_at (tree_now d) (path_in dir (Table table.number)) ≡ Some table.bytes)
         (λ (table : Unfinished). bytes_at (tree_now later) (path_in dir (Table table.number)) ≡ Some table.bytes)
-        (λ table has. bytes_stay folder d later at (path_in dir (Table table.number)) (out (Table table.number)) table.bytes has) kept.unfinished are.tables;
+        (λ table has. bytes_stay folder d later at (path_in dir (Table table.number))
+        (out (Table table.number)) table.bytes has) kept.unfinished are.tables;
     alone = alone_within (appended_to dir (without_restore kept) log) (all_outside kept log) are.alone;
   }
 
@@ -252,8 +276,10 @@ module _ (folder dir : List ℕ) (named : is_folder_name folder ≡ true) (fits 
 
   pub clear_within : AreClearable d → AreClearable later
   clear_within are = record {
-    no_file = λ job k id is leads. let was = at.cuts k in are.no_file job was.count id is (sym (was.same (built_in job) (built_out job is)) ∙ leads);
-    no_folder = λ job rest k is stands. let was = at.cuts k in are.no_folder job rest was.count is (sym (was.same (built_in job ++ 47 ∷ rest) (inside_out job is rest)) ∙ stands);
+    no_file = λ job k id is leads. let was = at.cuts k in are.no_file job was.count id is
+        (sym (was.same (built_in job) (built_out job is)) ∙ leads);
+    no_folder = λ job rest k is stands. let was = at.cuts k in are.no_folder job rest was.count is
+        (sym (was.same (built_in job ++ 47 ∷ rest) (inside_out job is rest)) ∙ stands);
   }
 
   module _ (job : Job) (job_named : is_folder_name job.dir ≡ true) where
@@ -267,7 +293,8 @@ module _ (folder dir : List ℕ) (named : is_folder_name folder ≡ true) (fits 
     copy_within file is = record {
       whole = bytes_stay folder d later at (path_in built file.name) (copy_out file) file.bytes is.whole;
       of = ⊎_elim
-          (λ link. inl (file_stays folder d later at (path_in built file.name) (copy_out file) ∙ link ∙ sym (file_stays folder d later at (path_in dir file.name) (out file.name))))
+          (λ link. inl (file_stays folder d later at (path_in built file.name) (copy_out file) ∙ link ∙ sym
+          (file_stays folder d later at (path_in dir file.name) (out file.name))))
           (λ own. inr (at.alone (path_in built file.name) (copy_out file) own))
           is.of;
     }
@@ -286,8 +313,10 @@ module _ (folder dir : List ℕ) (named : is_folder_name folder ≡ true) (fits 
       folder = at.now built (built_out job.dir job_named) ∙ is.folder;
       whole = All-weaker (HasCopy d dir built) (HasCopy later dir built) copy_within (done_files job all) is.whole;
       hand = All-weaker (HasFront d built job.copied) (HasFront later built job.copied) front_within (begun_files job all) is.hand;
-      absent = All-weaker (IsAbsent d built) (IsAbsent later built) (λ file free. at.now (path_in built file.name) (copy_out file) ∙ free) (absent_files job all) is.absent;
-      only = λ file is_file there. is.only file is_file (ap is_some (sym (at.now (path_in built file) (inside_out job.dir job_named (spelled file)))) ∙ there);
+      absent = All-weaker (IsAbsent d built) (IsAbsent later built)
+          (λ file free. at.now (path_in built file.name) (copy_out file) ∙ free) (absent_files job all) is.absent;
+      only = λ file is_file there. is.only file is_file (ap is_some
+          (sym (at.now (path_in built file) (inside_out job.dir job_named (spelled file)))) ∙ there);
     }
 
   builds_within : (job : Option Job) (pin : Pin) → IsNamedJob job → BuildsJob d dir job pin → BuildsJob later dir job pin
@@ -297,7 +326,8 @@ module _ (folder dir : List ℕ) (named : is_folder_name folder ≡ true) (fits 
   abbrev HasNamed : KeptPin → Type 0
   HasNamed kept = IsNamedJob kept.job
 
-  each_within : (kept : List KeptPin) (pins : List Pin) → All HasNamed kept → ArePins (λ (k : KeptPin) (pin : Pin). BuildsJob d dir k.job pin) kept pins
+  each_within : (kept : List KeptPin) (pins : List Pin) → All HasNamed kept
+      → ArePins (λ (k : KeptPin) (pin : Pin). BuildsJob d dir k.job pin) kept pins
       → ArePins (λ (k : KeptPin) (pin : Pin). BuildsJob later dir k.job pin) kept pins
   each_within [] [] all_named are = tt
   each_within [] (pin ∷ pins) all_named are = are
@@ -324,12 +354,16 @@ sane_is d dir kept parts sane = record {
   where
     left : (xs ys : List (List ℕ)) → All (IsAlone d) (xs ++ ys) → All (IsAlone d) (xs ++ [])
     left [] ys are = All-nil (IsAlone d)
-    left (x ∷ xs) ys are = All-cons (IsAlone d) x (xs ++ []) (All-head (IsAlone d) x (xs ++ ys) are) (left xs ys (All-tail (IsAlone d) x (xs ++ ys) are))
+    left (x ∷ xs) ys are = All-cons (IsAlone d) x (xs ++ []) (All-head (IsAlone d) x (xs ++ ys) are)
+        (left xs ys (All-tail (IsAlone d) x (xs ++ ys) are))
 
-    fewer : All (IsAlone d) (appended_to dir kept parts.last.number) → All (IsAlone d) (appended_to dir (without_restore kept) parts.last.number)
-    fewer are = left (path_in dir (Manifest kept.manifest) ∷ path_in dir (Log parts.last.number) ∷ map (λ (table : Unfinished). path_in dir (Table table.number)) kept.unfinished) (in_hand kept.begun kept.hand) are
+    fewer : All (IsAlone d) (appended_to dir kept parts.last.number)
+        → All (IsAlone d) (appended_to dir (without_restore kept) parts.last.number)
+    fewer are = left (path_in dir (Manifest kept.manifest) ∷ path_in dir (Log parts.last.number)
+        ∷ map (λ (table : Unfinished). path_in dir (Table table.number)) kept.unfinished) (in_hand kept.begun kept.hand) are
 
-pub sane_again : (d : State) (dir : List ℕ) (kept : Kept) (parts : Parts) → SaneOutside d dir kept parts → RestoreBuilds d dir kept.begun kept.hand → All (IsAlone d) (in_hand kept.begun kept.hand)
+pub sane_again : (d : State) (dir : List ℕ) (kept : Kept) (parts : Parts) → SaneOutside d dir kept parts
+    → RestoreBuilds d dir kept.begun kept.hand → All (IsAlone d) (in_hand kept.begun kept.hand)
     → Sane d dir kept parts
 sane_again d dir kept parts sane restored hand = record {
   current = sane.current;
@@ -340,10 +374,16 @@ sane_again d dir kept parts sane restored hand = record {
   known = sane.known;
   files = sane.files;
   lawful = sane.lawful;
-  written = record { tables = sane.written.tables; alone = both (path_in dir (Manifest kept.manifest) ∷ path_in dir (Log parts.last.number) ∷ map (λ (table : Unfinished). path_in dir (Table table.number)) kept.unfinished) sane.written.alone };
+  written = record {
+    tables = sane.written.tables;
+    alone = both
+        (path_in dir (Manifest kept.manifest) ∷ path_in dir (Log parts.last.number)
+        ∷ map (λ (table : Unfinished). path_in dir (Table table.number)) kept.unfinished) sane.written.alone;
+  };
   restored = restored;
 }
   where
     both : (xs : List (List ℕ)) → All (IsAlone d) (xs ++ []) → All (IsAlone d) (xs ++ in_hand kept.begun kept.hand)
     both [] are = hand
-    both (x ∷ xs) are = All-cons (IsAlone d) x (xs ++ in_hand kept.begun kept.hand) (All-head (IsAlone d) x (xs ++ []) are) (both xs (All-tail (IsAlone d) x (xs ++ []) are))
+    both (x ∷ xs) are = All-cons (IsAlone d) x (xs ++ in_hand kept.begun kept.hand) (All-head (IsAlone d) x (xs ++ []) are)
+        (both xs (All-tail (IsAlone d) x (xs ++ []) are))

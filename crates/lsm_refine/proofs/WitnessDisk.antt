@@ -45,7 +45,8 @@ module _ (dir : List ℕ) (fits : is_folder_name dir ≡ true) where
   abbrev d : disk.State
   d = its_disk dir
 
-  whole : (index : ℕ) (name : FileName) (bytes : List ℕ) → slice_get its_files index ≡ Some (record { name = name; bytes = bytes }) → IsWholeFile d (path_in dir name) bytes
+  whole : (index : ℕ) (name : FileName) (bytes : List ℕ) → slice_get its_files index
+      ≡ Some (record { name = name; bytes = bytes }) → IsWholeFile d (path_in dir name) bytes
   whole = whole_at dir fits its_files its_apart its_named
 
   pub table_file : IsWholeFile d (path_in dir (Table 3)) its_table
@@ -61,7 +62,12 @@ module _ (dir : List ℕ) (fits : is_folder_name dir ≡ true) where
   newer_file = whole 3 (Log 5) last_log refl
 
   is_current : IsCurrent d dir its_kept
-  is_current = record { named = fits; folder = folder_kept dir fits its_files its_apart; numbered = refl; file = whole 0 Current (current_text 1) refl }
+  is_current = record {
+    named = fits;
+    folder = folder_kept dir fits its_files its_apart;
+    numbered = refl;
+    file = whole 0 Current (current_text 1) refl;
+  }
 
   has_edits : HasEdits d dir its_kept its_parts.edits
   unfolding its_manifest
@@ -87,11 +93,13 @@ module _ (dir : List ℕ) (fits : is_folder_name dir ≡ true) where
 
   older_wal : IsWal d (path_in dir (Log 4)) (in_sequence 2 (older ∷ [])) 1
   unfolding older_log
-  older_wal = synced_wal d (path_in dir (Log 4)) older_file.id older_log (in_sequence 2 (older ∷ [])) older_file.file refl (put_logged 98 50 2 (omega arith))
+  older_wal = synced_wal d (path_in dir (Log 4)) older_file.id older_log (in_sequence 2 (older ∷ [])) older_file.file refl
+      (put_logged 98 50 2 (omega arith))
 
   newer_wal : IsWal d (path_in dir (Log 5)) (in_sequence 3 (newer ∷ [])) 1
   unfolding last_log
-  newer_wal = synced_wal d (path_in dir (Log 5)) newer_file.id last_log (in_sequence 3 (newer ∷ [])) newer_file.file refl (put_logged 99 51 3 (omega arith))
+  newer_wal = synced_wal d (path_in dir (Log 5)) newer_file.id last_log (in_sequence 3 (newer ∷ [])) newer_file.file refl
+      (put_logged 99 51 3 (omega arith))
 
   has_logs : HasLogs d dir its_kept its_parts
   unfolding IsStrictlySortedBy last_after numbers_after
@@ -99,7 +107,8 @@ module _ (dir : List ℕ) (fits : is_folder_name dir ≡ true) where
     numbers = refl;
     ascend = ((refl, tt), (tt, tt));
     live = All-cons (λ (number : ℕ). (4 ≤ number) × IsFileName (Log number)) 4 (5 ∷ []) (omega arith, refl)
-        (All-cons (λ (number : ℕ). (4 ≤ number) × IsFileName (Log number)) 5 [] (omega arith, refl) (All-nil (λ (number : ℕ). (4 ≤ number) × IsFileName (Log number))));
+        (All-cons (λ (number : ℕ). (4 ≤ number) × IsFileName (Log number)) 5 [] (omega arith, refl)
+        (All-nil (λ (number : ℕ). (4 ≤ number) × IsFileName (Log number))));
     older = (older_wal, tt);
     last = newer_wal;
     only = logs_at dir fits its_files its_apart its_named its_kept its_live;
@@ -111,8 +120,10 @@ module _ (dir : List ℕ) (fits : is_folder_name dir ≡ true) where
   are_written = record {
     tables = All-nil (λ (table : Unfinished). bytes_at (tree_now d) (path_in dir (Table table.number)) ≡ Some table.bytes);
     alone =
-        All-cons (IsAlone d) (path_in dir (Manifest 1)) (path_in dir (Log 5) ∷ []) (part_alone dir fits its_files its_apart 5 (record { name = Manifest 1; bytes = its_manifest }) refl)
-        (All-cons (IsAlone d) (path_in dir (Log 5)) [] (part_alone dir fits its_files its_apart 3 (record { name = Log 5; bytes = last_log }) refl) (All-nil (IsAlone d)));
+        All-cons (IsAlone d) (path_in dir (Manifest 1)) (path_in dir (Log 5) ∷ [])
+        (part_alone dir fits its_files its_apart 5 (record { name = Manifest 1; bytes = its_manifest }) refl)
+        (All-cons (IsAlone d) (path_in dir (Log 5)) [] (part_alone dir fits its_files its_apart 3
+        (record { name = Log 5; bytes = last_log }) refl) (All-nil (IsAlone d)));
   }
 
   pub its_sane : Sane d dir its_kept its_parts

@@ -81,7 +81,8 @@ module _ (dir : List ℕ) (folders : List FolderRead) where
   jobs d = record { apart = tt; each = (tt, tt) }
 
 -- a folder with its parts stands for all three batches
-pub its_parts_stand : (files : Files) → HasParts files its_parts.edits its_parts.rows (logs_with its_parts (last_text its_parts)) (batches_with its_parts its_parts.last.batches)
+pub its_parts_stand : (files : Files) → HasParts files its_parts.edits its_parts.rows
+    (logs_with its_parts (last_text its_parts)) (batches_with its_parts its_parts.last.batches)
     → Stands files (replayed finmap.empty (tabled ∷ older ∷ newer ∷ [])) 3
 its_parts_stand files has =
     let shows = tied_reads its_parts (its_state [] []) are_lawful (tied [] []) 1 (omega arith) in
@@ -95,7 +96,8 @@ its_parts_stand files has =
 -- a folder of these files
 module _ (current manifest table older newer : List ℕ) where
   abbrev its_entries : List (FileName × Item)
-  its_entries = (Current, A_file current) ∷ (Table 3, A_file table) ∷ (Log 4, A_file older) ∷ (Log 5, A_file newer) ∷ (Manifest 1, A_file manifest) ∷ []
+  its_entries = (Current, A_file current) ∷ (Table 3, A_file table) ∷ (Log 4, A_file older) ∷ (Log 5, A_file newer)
+      ∷ (Manifest 1, A_file manifest) ∷ []
 
   abbrev files : Files
   files = finmap.from_entries its_entries
@@ -103,12 +105,15 @@ module _ (current manifest table older newer : List ℕ) where
   file_is : (name : FileName) → file_at files name ≡ bytes_in (finmap.find name_cmp name its_entries)
   file_is name = ap bytes_in (finmap.get-from_entries names_total its_entries name)
 
-  log_is : (number : ℕ) → bytes_in (finmap.find name_cmp (Log number) its_entries) ≡ finmap.find nat_cmp number ((4, older) ∷ (5, newer) ∷ [])
+  log_is : (number : ℕ) → bytes_in (finmap.find name_cmp (Log number) its_entries)
+      ≡ finmap.find nat_cmp number ((4, older) ∷ (5, newer) ∷ [])
   log_is number =
-      elim (eq_by_cmp nat_cmp number 4) as (λ b. bytes_in (cond b (Some (A_file older)) (cond (eq_by_cmp nat_cmp number 5) (Some (A_file newer)) None))
+      elim (eq_by_cmp nat_cmp number 4) as (λ b. bytes_in (cond b (Some (A_file older))
+      (cond (eq_by_cmp nat_cmp number 5) (Some (A_file newer)) None))
       ≡ cond b (Some older) (cond (eq_by_cmp nat_cmp number 5) (Some newer) None)) [
         | true ↦ refl
-        | false ↦ elim (eq_by_cmp nat_cmp number 5) as (λ b. bytes_in (cond b (Some (A_file newer)) None) ≡ cond b (Some newer) None) [ true ↦ refl | false ↦ refl ]
+        | false ↦ elim (eq_by_cmp nat_cmp number 5) as (λ b. bytes_in (cond b (Some (A_file newer)) None)
+            ≡ cond b (Some newer) None) [ true ↦ refl | false ↦ refl ]
       ]
 
 abbrev a_file : FileName → List ℕ → PinnedFile
@@ -120,7 +125,8 @@ the_pin = record { number = 1; batches = 3; manifest = 1; files = pinned_files; 
 abbrev pin_folder : Files
 pin_folder = folder_of_pin 1 pinned_files
 
-pin_file : (name : FileName) → file_at pin_folder name ≡ bytes_in (finmap.find name_cmp name (its_entries (current_text 1) its_manifest its_table older_log last_log))
+pin_file : (name : FileName) → file_at pin_folder name ≡ bytes_in
+    (finmap.find name_cmp name (its_entries (current_text 1) its_manifest its_table older_log last_log))
 unfolding folder_of_pin
 pin_file name = file_is (current_text 1) its_manifest its_table older_log last_log name
 
@@ -141,7 +147,8 @@ module _ (dir : List ℕ) (fits : is_folder_name dir ≡ true) where
   abbrev d : disk.State
   d = its_disk dir
 
-  pin_parts : HasParts pin_folder its_parts.edits its_parts.rows (logs_with its_parts (last_text its_parts)) (batches_with its_parts its_parts.last.batches)
+  pin_parts : HasParts pin_folder its_parts.edits its_parts.rows (logs_with its_parts (last_text its_parts))
+      (batches_with its_parts its_parts.last.batches)
   pin_parts =
       let all = has_all d dir its_kept its_parts (its_sane dir fits) in
       record {
@@ -159,21 +166,40 @@ module _ (dir : List ℕ) (fits : is_folder_name dir ≡ true) where
         logs_are = all.logs_are;
       }
 
-  pin_stands : (folders : List FolderRead) → Stands pin_folder (shown_at (its_state dir folders) 3).contents (shown_at (its_state dir folders) 3).sequence
+  pin_stands : (folders : List FolderRead) → Stands pin_folder (shown_at (its_state dir folders) 3).contents
+      (shown_at (its_state dir folders) 3).sequence
   pin_stands folders = its_parts_stand pin_folder pin_parts
 
   kept_pin : (folders : List FolderRead) → IsKeptPin (its_state dir folders) its_pin the_pin
-  kept_pin folders = record { number = refl; sequence = refl; files = refl; manifest = refl; holder = refl; within = omega arith; stands = pin_stands folders }
+  kept_pin folders = record {
+    number = refl;
+    sequence = refl;
+    files = refl;
+    manifest = refl;
+    holder = refl;
+    within = omega arith;
+    stands = pin_stands folders;
+  }
 
-  is_pinned : (name : FileName) (bytes : List ℕ) → IsFileName name → IsWholeFile d (path_in dir name) bytes → IsPinned d dir (a_file name bytes)
-  is_pinned name bytes fits file = record { fits = fits; more = []; there = whole_image d (path_in dir name) bytes file (tree_now d) (reads_image d) ∙ ap Some (sym (append-nil bytes)) }
+  is_pinned : (name : FileName) (bytes : List ℕ) → IsFileName name → IsWholeFile d (path_in dir name) bytes
+      → IsPinned d dir (a_file name bytes)
+  is_pinned name bytes fits file = record {
+    fits = fits;
+    more = [];
+    there = whole_image d (path_in dir name) bytes file (tree_now d) (reads_image d) ∙ ap Some (sym (append-nil bytes));
+  }
 
   pin_files : PinFiles d dir pinned_files
   pin_files =
-      All-cons (IsPinned d dir) (a_file (Table 3) its_table) (a_file (Log 4) older_log ∷ a_file (Log 5) last_log ∷ a_file (Manifest 1) its_manifest ∷ []) (is_pinned (Table 3) its_table refl (table_file dir fits))
-      (All-cons (IsPinned d dir) (a_file (Log 4) older_log) (a_file (Log 5) last_log ∷ a_file (Manifest 1) its_manifest ∷ []) (is_pinned (Log 4) older_log refl (older_file dir fits))
-      (All-cons (IsPinned d dir) (a_file (Log 5) last_log) (a_file (Manifest 1) its_manifest ∷ []) (is_pinned (Log 5) last_log refl (newer_file dir fits))
-      (All-cons (IsPinned d dir) (a_file (Manifest 1) its_manifest) [] (is_pinned (Manifest 1) its_manifest refl (manifest_file dir fits)) (All-nil (IsPinned d dir)))))
+      All-cons (IsPinned d dir) (a_file (Table 3) its_table)
+      (a_file (Log 4) older_log ∷ a_file (Log 5) last_log ∷ a_file (Manifest 1) its_manifest ∷ [])
+      (is_pinned (Table 3) its_table refl (table_file dir fits))
+      (All-cons (IsPinned d dir) (a_file (Log 4) older_log) (a_file (Log 5) last_log ∷ a_file (Manifest 1) its_manifest ∷ [])
+      (is_pinned (Log 4) older_log refl (older_file dir fits))
+      (All-cons (IsPinned d dir) (a_file (Log 5) last_log) (a_file (Manifest 1) its_manifest ∷ [])
+      (is_pinned (Log 5) last_log refl (newer_file dir fits))
+      (All-cons (IsPinned d dir) (a_file (Manifest 1) its_manifest) []
+      (is_pinned (Manifest 1) its_manifest refl (manifest_file dir fits)) (All-nil (IsPinned d dir)))))
 
   -- ---- all of it
 
@@ -181,7 +207,14 @@ module _ (dir : List ℕ) (fits : is_folder_name dir ≡ true) where
   its_good folders read = record {
     story = record { start = d; log = [] };
     told = refl;
-    mode = record { parts = its_parts; sane = its_sane dir fits; tied = tied dir folders; works = works dir folders; jobs = jobs dir folders d; certain = refl };
+    mode = record {
+      parts = its_parts;
+      sane = its_sane dir fits;
+      tied = tied dir folders;
+      works = works dir folders;
+      jobs = jobs dir folders d;
+      certain = refl;
+    };
     pinned = record {
       pins = (kept_pin folders, tt);
       files = All-cons (λ (pin : Pin). PinFiles d dir pin.files) the_pin [] pin_files
@@ -208,11 +241,13 @@ module _ (dir : List ℕ) (fits : is_folder_name dir ≡ true) where
   its_settled = settled_disk dir fits its_files its_apart
 
   -- its disk has one image, and what opens this gives a good store again
-  pub its_reopening : (folders : List FolderRead) (before : Story) (w : Shown) → Good (its_store dir) (its_state dir folders) → IsSettled (state_of before) → tree_now (state_of before) ≡ tree_now d → HasOpened before dir w
+  pub its_reopening : (folders : List FolderRead) (before : Story) (w : Shown) → Good (its_store dir) (its_state dir folders)
+      → IsSettled (state_of before) → tree_now (state_of before) ≡ tree_now d → HasOpened before dir w
       → ReopensTo (its_state dir folders) w
   its_reopening folders before w good settled same opened =
       let told : untouched d ≡ good.story = same_story (untouched d) good.story good.told in
-      let image : IsImage (state_of good.story) (tree_now d) = subst (λ (q : Story). IsImage (state_of q) (tree_now d)) told (reads_image d) in
+      let image : IsImage (state_of good.story) (tree_now d) =
+      subst (λ (q : Story). IsImage (state_of q) (tree_now d)) told (reads_image d) in
       good_reopens (its_store dir) w (its_state dir folders) (tree_now d) before good image settled same opened
     where
       same_story : (one two : Story) → Some one ≡ Some two → one ≡ two

@@ -85,7 +85,10 @@ edit_is = record {
     record { range = record { some = omega arith; most = omega arith }; behind = inl (omega arith) },
     (
       record { range = (omega arith, omega arith); behind = inl (omega arith) },
-      (record { range = omega arith; behind = inl (omega arith) }, (record { range = (place_is, info_is); behind = inl (omega arith) }, tt)),
+      (
+        record { range = omega arith; behind = inl (omega arith) },
+        (record { range = (place_is, info_is); behind = inl (omega arith) }, tt),
+      ),
     ),
   );
 }
@@ -126,7 +129,8 @@ last_is = refl
 -- only the one table is there
 pub only_table : (number : ℕ) (placed : Placed) → finmap.get its_version number ≡ Some placed → (number ≡ 3) × (placed ≡ its_placed)
 only_table number placed is =
-    elim (eq_by_cmp nat_cmp number 3) as (λ b. eq_by_cmp nat_cmp number 3 ≡ b → cond b (Some its_placed) (finmap.get empty_version number) ≡ Some placed → (number ≡ 3) × (placed ≡ its_placed)) [
+    elim (eq_by_cmp nat_cmp number 3) as (λ b. eq_by_cmp nat_cmp number 3 ≡ b
+    → cond b (Some its_placed) (finmap.get empty_version number) ≡ Some placed → (number ≡ 3) × (placed ≡ its_placed)) [
       | true ↦ λ same h. (equal_number number 3 same, placed_once placed its_placed (sym h))
       | false ↦ λ other h. let clash : None ≡ Some placed = sym (finmap.get-empty nat_cmp number) ∙ h in absurd (cc)
     ] refl (sym (finmap.get-insert nat_cmp_total empty_version 3 its_placed number) ∙ is)
@@ -134,7 +138,8 @@ only_table number placed is =
     placed_once : (x y : Placed) → Some x ≡ Some y → x ≡ y
     placed_once x y same = cc
 
-pub table_after : (number : ℕ) (placed : Placed) → finmap.get (tables_after (its_edit ∷ [])) number ≡ Some placed → (number ≡ 3) × (placed ≡ its_placed)
+pub table_after : (number : ℕ) (placed : Placed) → finmap.get (tables_after (its_edit ∷ [])) number ≡ Some placed
+    → (number ≡ 3) × (placed ≡ its_placed)
 table_after number placed is = only_table number placed (ap (λ (tables : Tables). finmap.get tables number) (sym tables_are) ∙ is)
 
 pub table_rows : rows_of_tables (tables_after its_parts.edits) its_parts.rows ≡ its_row ∷ []
@@ -150,7 +155,8 @@ is_listed last some = record {
   rows_are = refl;
   smallest = refl;
   largest = refl;
-  sequences = All-cons (λ (row : Row). (1 ≤ row.sequence) × (row.sequence ≤ last)) its_row [] (omega arith, some) (All-nil (λ (row : Row). (1 ≤ row.sequence) × (row.sequence ≤ last)));
+  sequences = All-cons (λ (row : Row). (1 ≤ row.sequence) × (row.sequence ≤ last)) its_row [] (omega arith, some)
+      (All-nil (λ (row : Row). (1 ≤ row.sequence) × (row.sequence ≤ last)));
 }
 
 pub are_lawful : AreLawful its_parts.edits its_parts.rows
@@ -187,7 +193,8 @@ module _ (key value : ℕ) where
         is = refl;
         some = omega arith;
         limits = record {
-          each = All-cons OpInLimits (op.Put (key ∷ []) (value ∷ [])) [] (record { key = omega arith; value = omega arith }) (All-nil OpInLimits);
+          each = All-cons OpInLimits (op.Put (key ∷ []) (value ∷ [])) [] (record { key = omega arith; value = omega arith })
+              (All-nil OpInLimits);
           count = omega arith;
           bytes = omega (arith, text_is);
         };
@@ -196,13 +203,19 @@ module _ (key value : ℕ) where
       (All-nil IsLogged)
 
 -- a log whose file has its text, all of it synced
-pub synced_wal : (d : disk.State) (path : List ℕ) (id : ℕ) (text : List ℕ) (batches : List Logged) → IsKeptFile d path id (sealed text) → text ≡ wal_text batches → All IsLogged batches → IsWal d path batches (length batches)
+pub synced_wal : (d : disk.State) (path : List ℕ) (id : ℕ) (text : List ℕ) (batches : List Logged)
+    → IsKeptFile d path id (sealed text) → text ≡ wal_text batches → All IsLogged batches → IsWal d path batches (length batches)
 synced_wal d path id text batches kept same each = record {
   id = id;
   file = sealed text;
   kept = kept;
   text = append-nil text ∙ same;
   within = omega arith;
-  synced = omega (arith, ap (λ (l : List Logged). length (wal_text l)) (take_all (length batches) batches (omega arith)), ap (λ (l : List ℕ). length l) same);
+  synced = omega (
+    arith,
+    ap (λ (l : List Logged). length (wal_text l)) (take_all (length batches) batches (omega arith)),
+    ap
+        (λ (l : List ℕ). length l) same,
+  );
   each = each;
 }

@@ -47,8 +47,10 @@ last_byte-append (x ∷ w ∷ xs) y ys = last_byte-append (w ∷ xs) y ys
 pub table_apart : (dir : List ℕ) (m n : ℕ) → path_in dir (Table m) ≡ path_in dir (Log n) → ⊥
 unfolding spelled
 table_apart dir m n same =
-    let text : six_digits m ++ codes ".sst" ≡ six_digits n ++ codes ".log" = ap (λ (l : List ℕ). drop 1 l) (append_cancel_left dir (47 ∷ spelled (Table m)) (47 ∷ spelled (Log n)) same) in
-    let clash : 116 ≡ 103 = sym (last_byte-append (six_digits m) 46 (codes "sst")) ∙ ap last_byte text ∙ last_byte-append (six_digits n) 46 (codes "log") in
+    let text : six_digits m ++ codes ".sst" ≡ six_digits n ++ codes ".log" =
+    ap (λ (l : List ℕ). drop 1 l) (append_cancel_left dir (47 ∷ spelled (Table m)) (47 ∷ spelled (Log n)) same) in
+    let clash : 116 ≡ 103 = sym (last_byte-append (six_digits m) 46 (codes "sst")) ∙ ap last_byte text ∙ last_byte-append
+    (six_digits n) 46 (codes "log") in
     omega (arith, clash)
 
 -- the same names are held, whatever the rows in memory and the length of the last log
@@ -67,7 +69,8 @@ pub runs : (v : Shown) (s : State) (good : Good v s) → v.halt ≡ None → IsR
 runs v s good none = subst (λ (h : Option Halt). IsInMode h (state_of good.story) v s) none good.mode
 
 -- the next sequence is that behind the last log's batches
-pub next_first : (parts : Parts) (s : State) → Tied parts s → sequence_after s.began s.accepted + 1 ≡ sequence_after (first_in_last parts) parts.last.batches
+pub next_first : (parts : Parts) (s : State) → Tied parts s → sequence_after s.began s.accepted + 1
+    ≡ sequence_after (first_in_last parts) parts.last.batches
 next_first parts s tied =
     ap (λ (l : List (List Op)). sequence_after s.began l + 1) (sym (take-append-drop tied.flushed s.accepted))
     ∙ ap (λ (n : ℕ). n + 1) (sym (sequence_both s.began (take tied.flushed s.accepted) (drop tied.flushed s.accepted)))
@@ -91,8 +94,10 @@ module _ (v : Shown) (s : State) (good : Good v s) (run : IsRunning (state_of go
 
   last_alone : IsAlone d (last_path v.dir parts)
   last_alone =
-      let rest : List (List ℕ) = map (λ (table : Unfinished). path_in v.dir (Table table.number)) v.kept.unfinished ++ in_hand v.kept.begun v.kept.hand in
-      All-head (IsAlone d) (last_path v.dir parts) rest (All-tail (IsAlone d) (path_in v.dir (Manifest v.kept.manifest)) (last_path v.dir parts ∷ rest) run.sane.written.alone)
+      let rest : List (List ℕ) = map (λ (table : Unfinished). path_in v.dir (Table table.number)) v.kept.unfinished
+      ++ in_hand v.kept.begun v.kept.hand in
+      All-head (IsAlone d) (last_path v.dir parts) rest (All-tail (IsAlone d) (path_in v.dir (Manifest v.kept.manifest))
+      (last_path v.dir parts ∷ rest) run.sane.written.alone)
 
   -- its last log has no other name
   pub last_lone : IsLone (state_of good.story) v.dir (Log run.parts.last.number) run.sane.logs.last.id
@@ -111,7 +116,8 @@ module _ (v : Shown) (s : State) (good : Good v s) (run : IsRunning (state_of go
   module _ (x : disk.State) (writes : WritesAt v.dir (Log run.parts.last.number) (state_of good.story) x) where
     -- what stays while the log is written
     pub beside : Beside (state_of good.story) v.dir v.kept run.parts s (Log run.parts.last.number) x
-    beside = all_beside d v.dir v.kept parts run.sane name last_fits (inl refl) x writes s run.sane.logs.last.id last_lone good.pinned.files run.jobs good.clear
+    beside = all_beside d v.dir v.kept parts run.sane name last_fits
+        (inl refl) x writes s run.sane.logs.last.id last_lone good.pinned.files run.jobs good.clear
 
     pub folders_beside : FoldersRead x s
     folders_beside = folders_stay d x s (subst (λ (own : List ℕ). ChangesInside own d x) good.kept.own writes.inside) good.folders

@@ -11,7 +11,8 @@ pub returns-clause-spares : goal.returns-clause-spares
 returns-clause-spares c = move_spares
 
 pub returns-clause-current : goal.returns-clause-current
-returns-clause-current c dir from to apart d kept = current_stays d dir kept 0 (Named (Moved from to)) (move_spares dir from to apart d kept 0)
+returns-clause-current c dir from to apart d kept = current_stays d dir kept 0 (Named (Moved from to))
+    (move_spares dir from to apart d kept 0)
 
 pub returns-clause-edits : goal.returns-clause-edits
 returns-clause-edits c dir from to apart d kept = edits_stay d dir kept 0 (Named (Moved from to)) (move_spares dir from to apart d kept 0)
