@@ -16,7 +16,7 @@ use Rattle.lsm_wal.specs.Batches.{IsLogged, wal_text, in_sequence}
 use Rattle.lsm_wal.proofs.Fronts.{whole_reads}
 use Rattle.lsm_folder.specs.Names.{name_cmp, names_total, current_text}
 use Rattle.lsm_folder.specs.Files.{Item, A_file, Files, bytes_in, file_at}
-use Rattle.lsm_folder.specs.Edits.{first_edit, manifest_text}
+use Rattle.lsm_folder.specs.Manifests.{first_edit, manifest_text}
 use Rattle.lsm_folder.specs.Needed.{HasOneLog, Stands}
 use Rattle.lsm_folder.proofs.NameLemmas.{and_true}
 use Rattle.lsm_folder.proofs.StandingLemmas.{stands_for}

@@ -4,7 +4,7 @@ use Rattle.lsm_names.specs.declared.file_names.FileName.TheVariants.{Log, Manife
 use Rattle.lsm_rows.specs.declared.operations.Op.{Op}
 use Rattle.lsm_wal.specs.Batches.{wal_text, in_sequence}
 use Rattle.lsm_folder.specs.Names.{current_text}
-use Rattle.lsm_folder.specs.Edits.{first_edit, manifest_text}
+use Rattle.lsm_folder.specs.Manifests.{first_edit, manifest_text}
 use Rattle.lsm_folder.specs.Files.{Files, file_at}
 use Rattle.bk_meta.specs.declared.metas.Meta.{Meta}
 use Rattle.bk_engine.specs.Creating.{plain_names, plain_meta}

@@ -370,10 +370,14 @@ module _ (start : Option Story) (old new : Shown) (outcome : Outcome) (name : Li
   unshown_answers (folder.NoCurrent at) result reads rose is = show_some (folder.NoCurrent at) refusal.NoCurrent (λ e. cc) (λ Has h. h) result is reads
   unshown_answers (folder.Missing file) result reads rose is = show_some (folder.Missing file) (refusal.Missing file) (λ e. cc) (λ Has h. h) result is reads
   unshown_answers (folder.Changed call path) result reads rose is = show_some (folder.Changed call path) refusal.NoCurrent (λ e. cc) (λ Has h. absurd h) result is reads
+  unshown_answers (folder.Short file kept found) result reads rose is =
+      show_some (folder.Short file kept found) (refusal.Short file kept found) (λ e. cc) (λ Has h. h) result is reads
   unshown_answers (folder.Damaged file place kept found) result reads rose is = show_some (folder.Damaged file place kept found) (refusal.Damaged file place kept found) (λ e. cc) (λ Has h. h) result is reads
   unshown_answers (folder.Malformed file place) result reads rose is = show_some (folder.Malformed file place) (refusal.Malformed file place) (λ e. cc) (λ Has h. h) result is reads
   unshown_answers (folder.TornLog file place) result reads rose is = show_some (folder.TornLog file place) (refusal.TornLog file place) (λ e. cc) (λ Has h. h) result is reads
   unshown_answers (folder.Gap file kept found) result reads rose is = show_some (folder.Gap file kept found) (refusal.Gap file kept found) (λ e. cc) (λ Has h. h) result is reads
+  unshown_answers (folder.BadLevels level left right) result reads rose is =
+      show_some (folder.BadLevels level left right) (refusal.BadLevels level left right) (λ e. cc) (λ Has h. h) result is reads
 
 -- ---- behind the opening of an engine
 

@@ -71,9 +71,12 @@ module _ (id : ℕ) where
         held = λ s h. r.held s h.1;
       }
 
+  none_kept : (meta : Meta) → meta_by id [] ≡ Some meta → ⊥
+  none_kept meta is = cc
+
   -- a meta that is kept is that of a backup that is listed
   pub found : (metas : List Meta) (backups : List Backup) → AreMetasOf metas backups → (meta : Meta) → meta_by id metas ≡ Some meta → IsListed id metas backups meta
-  found [] backups are meta is = cc
+  found [] backups are meta is = absurd (none_kept meta is)
   found (m ∷ metas) [] are meta is = absurd are
   found (m ∷ metas) (backup ∷ backups) are meta is = found_by m backup metas backups (m.id == id) (ap (λ (n : ℕ). n == id) are.0.id) are.0 meta is (found metas backups are.1 meta)
 

@@ -25,7 +25,8 @@ use Rattle.lsm_wal.specs.Batches.{in_sequence, wal_text}
 use Rattle.lsm_wal.specs.Standing.{IsWal}
 use Rattle.lsm_wal.proofs.Fronts.{whole_reads}
 use Rattle.lsm_folder.specs.Names.{current_text}
-use Rattle.lsm_folder.specs.Edits.{first_edit, edit_text, manifest_text}
+use Rattle.lsm_version.specs.EditText.{field_text, edit_text}
+use Rattle.lsm_folder.specs.Manifests.{first_edit, manifest_text}
 use Rattle.lsm_folder.specs.Files.{Item, Place, item_of, bytes_in, files_in, place_of}
 use Rattle.lsm_folder.specs.Needed.{HasOneLog}
 use Rattle.lsm_folder.specs.Reading.{Shown, reading}
@@ -54,7 +55,7 @@ unfolding first_current current_text spelled padded_decimal digits
 current_is = refl
 
 pub manifest_is : first_manifest ≡ manifest_text (first_edit ∷ [])
-unfolding first_manifest edit_text varint varint_within
+unfolding first_manifest edit_text field_text varint varint_within
 manifest_is = refl
 
 manifest_name : spelled (Manifest 1) ≡ codes "MANIFEST-000001"

@@ -17,7 +17,7 @@ use Rattle.lsm_disk.proofs.Files.{same_some}
 use Rattle.lsm_disk.proofs.Kept.{kept_at, kept_now}
 use Rattle.lsm_wal.specs.Batches.{text_of, in_sequence, wal_text}
 use Rattle.lsm_folder.specs.Names.{current_text}
-use Rattle.lsm_folder.specs.Edits.{first_edit, manifest_text}
+use Rattle.lsm_folder.specs.Manifests.{first_edit, manifest_text}
 use Rattle.bk_engine.specs.Creating.{plain_names}
 use Rattle.bk_engine.specs.Preparing.{IsTextOf, AreTexts, plain_views}
 use Rattle.bk_engine.specs.Standing.{plain_log, plain_texts}

@@ -247,6 +247,13 @@ fn file_refusal(alloc: Global, why: FolderError) -> Result<String, AllocError> {
             let name = name_text(alloc, name)?;
             format!(in alloc; "Gap {name} {kept} {found}")
         }
+        FolderError::Short { name, kept, found } => {
+            let name = name_text(alloc, name)?;
+            format!(in alloc; "Short {name} {kept} {found}")
+        }
+        FolderError::BadLevels { level, left, right } => {
+            format!(in alloc; "BadLevels {level} {left} {right}")
+        }
         FolderError::Missing { name } => {
             let name = name_text(alloc, name)?;
             format!(in alloc; "Missing {name}")

@@ -1,75 +1,23 @@
 -- A batch's text is read back by its own counts and lengths.
-use Rattle.std.specs.Prelude.{◌≡◌, ℕ, zero, suc, ◌+◌, ◌-◌, ◌*◌, ◌/◌, ◌%◌, ◌^◌, ◌<◌, ◌≤◌, Bool, true, false, cond, ◌&&◌, nat_lt, nat_le, List, [], ◌∷◌, ◌++◌, length, take, drop, All, Option, Some, None}
+use Rattle.std.specs.Prelude.{◌≡◌, ℕ, ◌+◌, ◌^◌, ◌<◌, Bool, true, false, cond, ◌&&◌, nat_le, List, [], ◌∷◌, ◌++◌, length, All, Option, Some, None}
 use Rattle.std.proofs.Common.{refl, ap, subst, ◌∙◌, arith}
-use Rattle.std.proofs.lemmas.Bool.Decides.{nat_tests}
-use Rattle.std.proofs.lemmas.Bool.{cases_lt, and_parts}
-use Rattle.std.proofs.Common.{⊎_elim, append_assoc}
+use Rattle.std.proofs.lemmas.Bool.{and_parts}
+use Rattle.std.proofs.Common.{append_assoc}
 use Rattle.std.proofs.lemmas.List.Elements.{All-head, All-tail, All-nil, All-cons}
 use Rattle.std.proofs.lemmas.Nat.{from_le_bytes-to_le_bytes_4, from_le_bytes-to_le_bytes_8}
 use Rattle.std.specs.List.{flat_map, list_all}
 use Rattle.std.specs.Int.{w32, to_le_bytes, from_le_bytes}
 use Rattle.std.specs.Str.{bytes_eq}
-use Rattle.lsm_bytes.specs.Varint.{varint, varint_within}
-use Rattle.lsm_bytes.proofs.Spelling.{varint_last}
 use Rattle.lsm_rows.specs.declared.operations.Op.{Op}
 use Rattle.lsm_rows.specs.declared.operations.Op.TheVariants.{Put, Delete}
 use Rattle.lsm_rows.specs.BatchText.{sized, op_text, batch_text, text_len}
 use Rattle.lsm_rows.specs.Limits.{key_len, value_len, key_limit, value_limit, count_limit, bytes_limit, OpInLimits}
 use Rattle.lsm_rows.specs.Decoding.{IsBatchText, IsSomeBatch}
 use Rattle.lsm_wal.specs.Batches.{Logged, text_of, IsLogged}
-use Rattle.lsm_folder.specs.Batches.{number_ahead, sized_ahead, op_ahead, ops_ahead, claimed, op_fits, batch_fits, batch_of}
+use Rattle.lsm_folder.specs.Batches.{sized_ahead, op_ahead, ops_ahead, claimed, op_fits, batch_fits, batch_of}
+use Rattle.lsm_folder.proofs.AheadLemmas.{at_most, within, sized_back}
 use Rattle.lsm_folder.proofs.NameLemmas.{same_text, equal_texts, and_true}
 use Rattle.std.proofs.lemmas.Option.{same_Some}
-
-at_most : (m n : ℕ) → nat_le m n ≡ true → m ≤ n
-at_most m n h = grind (arith, nat_tests)
-
-within : (m n : ℕ) → m ≤ n → nat_le m n ≡ true
-within m n h = grind (arith, nat_tests)
-
--- ---- numbers and byte lists
-
-ahead_last : (b : ℕ) (rest : List ℕ) → b < 128 → number_ahead (b ∷ rest) ≡ (b, rest)
-ahead_last b rest below = grind (arith, nat_tests)
-
-ahead_more : (b n high : ℕ) (bytes rest : List ℕ) → 128 ≤ b → number_ahead bytes ≡ (high, rest) → b - 128 + 128 * high ≡ n → number_ahead (b ∷ bytes) ≡ (n, rest)
-ahead_more b n high bytes rest more ahead is =
-    let test : nat_lt b 128 ≡ false = grind (arith, nat_tests) in
-    ap (λ (t : Bool). cond t (b, bytes) (b - 128 + 128 * (number_ahead bytes).0, (number_ahead bytes).1)) test
-    ∙ ap (λ (r : ℕ × List ℕ). (b - 128 + 128 * r.0, r.1)) ahead
-    ∙ ap (λ (k : ℕ). (k, rest)) is
-
-number_within : (more n : ℕ) (rest : List ℕ) → n ≤ more → number_ahead (varint_within more n ++ rest) ≡ (n, rest)
-unfolding varint_within
-number_within zero n rest within = ahead_last n rest (omega arith)
-number_within (suc more) n rest within = ⊎_elim
-    (λ below. ap (λ (l : List ℕ). number_ahead (l ++ rest)) (varint_last (suc more) n below) ∙ ahead_last n rest below)
-    (λ high.
-    let test : nat_lt n 128 ≡ false = grind (arith, nat_tests) in
-    ap (λ (t : Bool). number_ahead (cond t (n ∷ []) ((n % 128 + 128) ∷ varint_within more (n / 128)) ++ rest)) test
-    ∙ ahead_more (n % 128 + 128) n (n / 128) (varint_within more (n / 128) ++ rest) rest (omega arith) (number_within more (n / 128) rest (omega arith)) (omega arith))
-    (cases_lt n 128)
-
-number_back : (n : ℕ) (rest : List ℕ) → number_ahead (varint n ++ rest) ≡ (n, rest)
-unfolding varint
-number_back n rest = number_within n n rest (omega arith)
-
-take_front : (front rest : List ℕ) → take (length front) (front ++ rest) ≡ front
-take_front [] rest = refl
-take_front (x ∷ front) rest = ap (λ (l : List ℕ). x ∷ l) (take_front front rest)
-
-drop_front : (front rest : List ℕ) → drop (length front) (front ++ rest) ≡ rest
-drop_front [] rest = refl
-drop_front (x ∷ front) rest = drop_front front rest
-
-sized_back : (bytes rest : List ℕ) → sized_ahead (sized bytes ++ rest) ≡ (bytes, rest)
-unfolding sized
-sized_back bytes rest =
-    let ahead : number_ahead ((varint (length bytes) ++ bytes) ++ rest) ≡ (length bytes, bytes ++ rest) =
-    ap number_ahead (append_assoc (varint (length bytes)) bytes rest) ∙ number_back (length bytes) (bytes ++ rest) in
-    ap (λ (r : ℕ × List ℕ). (take r.0 r.1, drop r.0 r.1)) ahead
-    ∙ ap (λ (l : List ℕ). (l, drop (length bytes) (bytes ++ rest))) (take_front bytes rest)
-    ∙ ap (λ (l : List ℕ). (bytes, l)) (drop_front bytes rest)
 
 -- ---- operations
 
@@ -98,11 +46,13 @@ ops_back (op ∷ ops) =
 
 -- ---- batches
 
-claimed_back : (first : ℕ) (ops : List Op) → first < 2 ^ 64 → length ops < 2 ^ 32 → claimed (batch_text first ops) ≡ record { first = first; ops = ops }
+claimed_back : (first : ℕ) (ops : List Op) → first < 2 ^ 64 → length ops < 2 ^ 32
+    → claimed (batch_text first ops) ≡ record { first = first; ops = ops }
 unfolding claimed batch_text
 claimed_back first ops small few =
     ap (λ (k : ℕ). record { first = k; ops = ops_ahead (from_le_bytes w32 (to_le_bytes w32 (length ops))) (flat_map op_text ops) }) (from_le_bytes-to_le_bytes_8 first small)
-    ∙ ap (λ (k : ℕ). record { first = first; ops = ops_ahead k (flat_map op_text ops) }) (from_le_bytes-to_le_bytes_4 (length ops) few)
+    ∙ ap (λ (k : ℕ). record { first = first; ops = ops_ahead k (flat_map op_text ops) })
+    (from_le_bytes-to_le_bytes_4 (length ops) few)
     ∙ ap (λ (l : List Op). record { first = first; ops = l }) (ops_back ops)
 
 op_fits_says : (op : Op) → op_fits op ≡ true → OpInLimits op
@@ -148,15 +98,18 @@ logged_fits batch h =
     }
 
 -- a batch's text gives the batch
-pub batch_found : (text : List ℕ) (first : ℕ) (ops : List Op) → IsBatchText text first ops → batch_of text ≡ Some (record { first = first; ops = ops })
+pub batch_found : (text : List ℕ) (first : ℕ) (ops : List Op) → IsBatchText text first ops
+    → batch_of text ≡ Some (record { first = first; ops = ops })
 unfolding batch_of
 batch_found text first ops h =
     let batch : Logged = record { first = first; ops = ops } in
     let small : first < 2 ^ 64 = omega (arith, h.last) in
     let few : length ops < 2 ^ 32 = omega (arith, h.limits.count) in
     let logged : IsLogged batch = record { is = refl; some = h.some; limits = h.limits; last = h.last } in
-    ap (λ (l : Logged). cond (batch_fits l && bytes_eq text (text_of l)) (Some l) None) (ap claimed h.is ∙ claimed_back first ops small few)
-    ∙ ap (λ (b : Bool). cond b (Some batch) None) (and_true _ _ (fits_logged batch logged) (ap (λ (t : List ℕ). bytes_eq t (text_of batch)) h.is ∙ same_text (text_of batch)))
+    ap (λ (l : Logged). cond (batch_fits l && bytes_eq text (text_of l)) (Some l) None)
+    (ap claimed h.is ∙ claimed_back first ops small few)
+    ∙ ap (λ (b : Bool). cond b (Some batch) None)
+    (and_true _ _ (fits_logged batch logged) (ap (λ (t : List ℕ). bytes_eq t (text_of batch)) h.is ∙ same_text (text_of batch)))
 
 -- only a batch's text gives it
 pub batch_is : (text : List ℕ) (batch : Logged) → batch_of text ≡ Some batch → IsBatchText text batch.first batch.ops
@@ -178,4 +131,6 @@ no_some (Some batch) h = absurd (h batch refl)
 
 -- a text that is no batch's gives none
 pub batch_none : (text : List ℕ) → ¬ IsSomeBatch text → batch_of text ≡ None
-batch_none text none = no_some (batch_of text) (λ batch is. none (record { first = batch.first; ops = batch.ops; text_is = batch_is text batch is }))
+batch_none text none =
+    no_some (batch_of text)
+    (λ batch is. none (record { first = batch.first; ops = batch.ops; text_is = batch_is text batch is }))

@@ -1,192 +1,278 @@
--- How the plain reader reads a manifest, record by record.
-use Rattle.std.specs.Prelude.{◌≡◌, ℕ, zero, suc, ◌+◌, ◌^◌, ◌<◌, List, [], ◌∷◌, ◌++◌, length, drop, Option, Some, None, IfSome, IfOk, IfErr, slice_get, Result, Ok, Err}
-use Rattle.std.proofs.Common.{refl, sym, ap, subst, ◌∙◌, arith, append_assoc}
-use Rattle.std.proofs.lemmas.List.Sums.{fold_push}
-use Rattle.lsm_names.specs.declared.file_names.FileName.{FileName}
-use Rattle.lsm_io.specs.Causes.{Rose}
-use Rattle.lsm_disk.specs.Viewed.{Viewed}
-use Rattle.lsm_frame.specs.Records.{records_of}
-use Rattle.lsm_frame.specs.Reader.{Reader, Tells, Stays, IsRecord, EndsBehind, ending_of, record_in}
-use Rattle.lsm_frame.specs.declared.ending.Ending.{Ending}
-use Rattle.lsm_frame.specs.declared.ending.Ending.TheVariants as ending
-use Rattle.lsm_frame.specs.declared.next.Next.{Next}
-use Rattle.lsm_frame.specs.declared.next.Next.TheVariants as next
-use Rattle.lsm_frame.specs.declared.next.FrameError.{FrameError}
-use Rattle.lsm_frame.specs.declared.next.FrameError.TheVariants as frame
-use Rattle.lsm_folder.specs.declared.version.Version.{Version}
-use Rattle.lsm_folder.specs.declared.plain.PlainError.{PlainError}
-use Rattle.lsm_folder.specs.declared.plain.PlainError.TheVariants.{Refused}
-use Rattle.lsm_folder.specs.declared.refusals.Refusal.{Refusal}
-use Rattle.lsm_folder.specs.declared.refusals.Refusal.TheVariants.{Malformed, Damaged}
-use Rattle.lsm_folder.specs.Edits.{Edit, first_edit, edit_of, edited, version_of}
-use Rattle.lsm_folder.specs.Reading.{◌>>=◌, some_or, read_to_end, edits_in, some_edits, edits_said}
-use Rattle.lsm_folder.specs.Plain.{GivesVersion, IsRefusedBy, version_by, frame_trouble}
+-- An edit's text is read back as the edit, and no other text is.
+use Rattle.std.specs.Prelude.{◌≡◌, ◌⊎◌, ℕ, zero, suc, ◌^◌, ◌≤◌, Bool, true, false, cond, ◌&&◌, ◌||◌, ◌==◌, nat_lt, nat_le, List, [], ◌∷◌, ◌++◌, length, take, drop, Option, Some, None}
+use Rattle.std.proofs.Common.{refl, sym, ap, subst, ◌∙◌, arith, inl, inr, append_assoc, length-append}
+use Rattle.std.proofs.lemmas.Bool.Decides.{nat_tests}
+use Rattle.std.proofs.lemmas.List.{take_at, drop_at}
+use Rattle.std.specs.List.{fold, flat_map}
+use Rattle.std.specs.Str.{bytes_eq}
+use Rattle.lsm_bytes.specs.Varint.{varint}
+use Rattle.lsm_names.specs.Sessions.{is_session}
+use Rattle.lsm_rows.specs.BatchText.{sized}
+use Rattle.lsm_rows.specs.InternalKeys.{user_key}
+use Rattle.lsm_rows.specs.Limits.{key_limit}
+use Rattle.lsm_folder.specs.Batches.{number_ahead, sized_ahead}
+use Rattle.lsm_folder.proofs.NameLemmas.{same_text, equal_texts, and_true}
+use Rattle.lsm_version.specs.declared.tables.TableInfo.{TableInfo}
+use Rattle.lsm_version.specs.declared.tables.Add.{Add}
+use Rattle.lsm_version.specs.declared.tables.Place.{Place}
+use Rattle.lsm_version.specs.declared.edits.Edit.{Edit}
+use Rattle.lsm_version.specs.declared.fields.Rank.{Rank}
+use Rattle.lsm_version.specs.declared.fields.Field.{Field}
+use Rattle.lsm_version.specs.declared.fields.Field.TheVariants.{LogNumber, NextNumber, LastSequence, Added, Dropped}
+use Rattle.lsm_version.specs.EditText.{place_text, rest_text, field_text, fields_of, edit_text}
+use Rattle.lsm_version.specs.Edits.{last_level, last_number, IsFileNumber, IsKey, IsTable, IsPlace, InRange, rank_of, Before, start, AreFields, IsEdit, IsEditText}
+use Rattle.lsm_version.specs.Reading.{with_field}
+use Rattle.lsm_version.proofs.FieldLists.{fields_make}
+use Rattle.lsm_folder.specs.Keys.{is_internal_key}
+use Rattle.lsm_folder.specs.Edits.{place_ahead, added_ahead, field_ahead, fields_ahead, claimed_edit, number_fits, place_fits, key_fits, table_fits, field_fits, comes_before, fields_fit, edit_of}
+use Rattle.lsm_folder.proofs.AheadLemmas.{number_back, sized_back, at_most, within, less_than}
+use Rattle.lsm_folder.proofs.KeyLemmas.{user_is, key_tested, tested_key}
 use Rattle.std.proofs.lemmas.Option.{same_Some}
+use Rattle.std.proofs.lemmas.Bool.{and_parts}
+use Rattle.lsm_names.proofs.SessionLemmas.{length_of_session}
+use Rattle.lsm_rows.proofs.ReplayedRows.{lesser}
+use Rattle.lsm_version.proofs.Texts.{rest_split}
 
--- what the records behind the first so many come to
-abbrev pub edits_behind : FileName → List ℕ → ℕ → Result (List Edit) Refusal
-edits_behind name text given = edits_in name (drop given (records_of text).0) (records_of text).1
+-- ---- fields
 
--- edits before those that are still to be read
-abbrev before_edits : List Edit → Result (List Edit) Refusal → Result (List Edit) Refusal
-before_edits edits rest = rest >>= λ (more : List Edit). Ok (edits ++ more)
+abbrev behind_level : ℕ × List ℕ → Place × List ℕ
+behind_level level = (record { level = level.0; number = (number_ahead level.1).0 }, (number_ahead level.1).1)
 
-abbrev version_in : List Edit → Option Version
-version_in [] = None
-version_in (edit ∷ edits) = Some (version_of (edit ∷ edits))
+place_back : (level number : ℕ) (rest : List ℕ)
+    → place_ahead (place_text level number ++ rest) ≡ (record { level = level; number = number }, rest)
+unfolding place_text
+place_back level number rest =
+    ap behind_level
+    (ap number_ahead (append_assoc (varint level) (varint number) rest) ∙ number_back level (varint number ++ rest))
+    ∙ ap (λ (n : ℕ × List ℕ). (record { level = level; number = n.0 }, n.1)) (number_back number rest)
 
--- the first so many records were read as edits that come to this version
-pub record EditsRead (name : FileName) (text : List ℕ) (given : ℕ) (version : Option Version) : Type 0 where
-  pub edits : List Edit
-  pub is : edits_behind name text 0 ≡ before_edits edits (edits_behind name text given)
-  pub made : version ≡ version_in edits
-  pub small : IfSome version (λ (v : Version). v.last < 2 ^ 56)
+module _ (add : Add) (rest : List ℕ) (twenty : length add.table.session ≡ 20) where
+  abbrev table : TableInfo
+  table = add.table
 
--- where a reader of a manifest stands
-pub record Reads (name : FileName) (text : List ℕ) (reader : Reader) (version : Option Version) : Type 0 where
-  pub tells : Tells reader.viewed text
-  pub read : EditsRead name text reader.given version
+  abbrev behind_largest : List ℕ → ℕ → List ℕ → List ℕ × List ℕ → Field × List ℕ
+  behind_largest session size smallest largest =
+      (Added (record { level = add.level; table = record { number = table.number; session = session; size = size; smallest = smallest; largest = largest.0 } }), largest.1)
 
--- ---- behind a record, and at the end
+  abbrev behind_smallest : List ℕ → ℕ → List ℕ × List ℕ → Field × List ℕ
+  behind_smallest session size smallest = behind_largest session size smallest.0 (sized_ahead smallest.1)
 
-none_before : (rest : Result (List Edit) Refusal) → rest ≡ before_edits [] rest
-none_before (Err refusal) = refl
-none_before (Ok edits) = refl
+  abbrev behind_size : List ℕ → ℕ × List ℕ → Field × List ℕ
+  behind_size session size = behind_smallest session size.0 (sized_ahead size.1)
 
-one_later : (edits : List Edit) (edit : Edit) (rest : Result (List Edit) Refusal) → before_edits edits (rest >>= λ (more : List Edit). Ok (edit ∷ more)) ≡ before_edits (edits ++ edit ∷ []) rest
-one_later edits edit (Err refusal) = refl
-one_later edits edit (Ok more) = ap Ok (sym (append_assoc edits (edit ∷ []) more))
+  abbrev behind_session : List ℕ → Field × List ℕ
+  behind_session bytes = behind_size (take 20 bytes) (number_ahead (drop 20 bytes))
 
-drop_next : {A : Type 0} (xs : List A) (n : ℕ) (x : A) → slice_get xs n ≡ Some x → drop n xs ≡ x ∷ drop (suc n) xs
-drop_next [] n x is = cc
-drop_next (y ∷ xs) zero x is = ap (λ z. z ∷ xs) (same_Some y x is)
-drop_next (y ∷ xs) (suc n) x is = drop_next xs n x is
+  added_back : added_ahead (record { level = add.level; number = table.number }, rest_text table ++ rest) ≡ (Added add, rest)
+  added_back =
+      let more : List ℕ = varint table.size ++ (sized table.smallest ++ (sized table.largest ++ rest)) in
+      ap behind_session (rest_split table rest)
+      ∙ (λ i. behind_size (take_at table.session more 20 twenty i) (number_ahead (drop_at table.session more 20 twenty i)))
+      ∙ ap (behind_size table.session) (number_back table.size (sized table.smallest ++ (sized table.largest ++ rest)))
+      ∙ ap (behind_smallest table.session table.size) (sized_back table.smallest (sized table.largest ++ rest))
+      ∙ ap (behind_largest table.session table.size table.smallest) (sized_back table.largest rest)
 
-drop_at : {A : Type 0} (xs : List A) (n : ℕ) (x : A) → slice_get xs n ≡ Some x → drop n xs ≡ x ∷ drop (n + 1) xs
-drop_at xs n x is =
-    let next : suc n ≡ n + 1 = omega arith in
-    drop_next xs n x is ∙ ap (λ (k : ℕ). x ∷ drop k xs) next
+field_back : (field : Field) (rest : List ℕ) → InRange field → field_ahead (field_text field ++ rest) ≡ (field, rest)
+unfolding field_text field_ahead InRange
+field_back (LogNumber n) rest range = ap (λ (r : ℕ × List ℕ). (LogNumber r.0, r.1)) (number_back n rest)
+field_back (NextNumber n) rest range = ap (λ (r : ℕ × List ℕ). (NextNumber r.0, r.1)) (number_back n rest)
+field_back (LastSequence n) rest range = ap (λ (r : ℕ × List ℕ). (LastSequence r.0, r.1)) (number_back n rest)
+field_back (Added add) rest range =
+    ap (λ (bytes : List ℕ). added_ahead (place_ahead bytes))
+    (append_assoc (place_text add.level add.table.number) (rest_text add.table) rest)
+    ∙ ap added_ahead (place_back add.level add.table.number (rest_text add.table ++ rest))
+    ∙ added_back add rest (length_of_session add.table.session range.1.session)
+field_back (Dropped place) rest range =
+    ap (λ (r : Place × List ℕ). (Dropped r.0, r.1)) (place_back place.level place.number rest)
 
-drop_all : {A : Type 0} (xs : List A) (n : ℕ) → length xs ≡ n → drop n xs ≡ []
-drop_all [] zero is = refl
-drop_all [] (suc n) is = absurd (omega (arith, is))
-drop_all (x ∷ xs) zero is = absurd (omega (arith, is))
-drop_all (x ∷ xs) (suc n) is = drop_all xs n (omega (arith, is))
+field_some : (field : Field) (rest : List ℕ) → suc (length rest) ≤ length (field_text field ++ rest)
+unfolding field_text
+field_some (LogNumber n) rest = omega (arith, length-append (varint n) rest)
+field_some (NextNumber n) rest = omega (arith, length-append (varint n) rest)
+field_some (LastSequence n) rest = omega (arith, length-append (varint n) rest)
+field_some (Added add) rest = omega (arith, length-append (place_text add.level add.table.number ++ rest_text add.table) rest)
+field_some (Dropped place) rest = omega (arith, length-append (place_text place.level place.number) rest)
 
-version_push : (edits : List Edit) (edit : Edit) → version_in (edits ++ edit ∷ []) ≡ Some (version_by edit)
-version_push [] edit = refl
-version_push (first ∷ edits) edit = ap Some (fold_push edited (record { log = 0; next = 0; last = 0 }) (first ∷ edits) edit)
+fields_end : (fuel : ℕ) → fields_ahead fuel [] ≡ []
+fields_end zero = refl
+fields_end (suc fuel) = refl
 
-module _ (name : FileName) (text : List ℕ) (given : ℕ) where
-  at_record : (place : ℕ) (payload : List ℕ) → IsRecord text given place payload
-      → edits_behind name text given ≡ (some_or (Malformed name place) (edit_of payload) >>= λ (edit : Edit). edits_behind name text (given + 1) >>= λ (edits : List Edit). Ok (edit ∷ edits))
-  at_record place payload is = ap (λ (rs : List (ℕ × List ℕ)). edits_in name rs (records_of text).1) (drop_at (records_of text).0 given (place, payload) is)
+fields_step : (fuel : ℕ) (bytes : List ℕ) → 1 ≤ length bytes
+    → fields_ahead (suc fuel) bytes ≡ (field_ahead bytes).0 ∷ fields_ahead fuel (field_ahead bytes).1
+fields_step fuel [] some = absurd (omega (arith, some))
+fields_step fuel (b ∷ bytes) some = refl
 
-  at_end : (stop : Ending) → EndsBehind text given stop → edits_behind name text given ≡ read_to_end name stop []
-  at_end stop is =
-      ap (λ (rs : List (ℕ × List ℕ)). edits_in name rs (records_of text).1) (drop_all (records_of text).0 given is.records)
-      ∙ ap (λ (e : Ending). read_to_end name e []) is.end
+fields_back : (fuel : ℕ) (after : Rank) (fields : List Field) → AreFields after fields
+    → length (flat_map field_text fields) ≤ fuel → fields_ahead fuel (flat_map field_text fields) ≡ fields
+unfolding AreFields
+fields_back fuel after [] are fits = fields_end fuel
+fields_back zero after (field ∷ fields) are fits = absurd (omega (arith, fits, field_some field (flat_map field_text fields)))
+fields_back (suc fuel) after (field ∷ fields) are fits =
+    let more : List ℕ = flat_map field_text fields in
+    let some = field_some field more in
+    fields_step fuel (field_text field ++ more) (omega (arith, some))
+    ∙ ap (λ (r : Field × List ℕ). r.0 ∷ fields_ahead fuel r.1) (field_back field more are.0.range)
+    ∙ ap (λ (l : List Field). field ∷ l) (fields_back fuel (rank_of field) fields are.1 (omega (arith, some, fits)))
 
-  pub edits_more : (version : Option Version) (place : ℕ) (payload : List ℕ) (v : Version) → EditsRead name text given version → IsRecord text given place payload → edit_of payload ≡ Some first_edit → v ≡ version_by first_edit
-      → EditsRead name text (given + 1) (Some v)
-  edits_more version place payload v r is edit made = record {
-    edits = r.edits ++ first_edit ∷ [];
-    is =
-        r.is
-        ∙ ap (before_edits r.edits) (at_record place payload is ∙ ap (λ (o : Option Edit). some_or (Malformed name place) o >>= λ (edit : Edit). edits_behind name text (given + 1) >>= λ (edits : List Edit). Ok (edit ∷ edits)) edit)
-        ∙ one_later r.edits first_edit (edits_behind name text (given + 1));
-    made = ap Some made ∙ sym (version_push r.edits first_edit);
-    small = subst (λ (w : Version). w.last < 2 ^ 56) (sym made) (omega arith);
-  }
+claimed_back : (edit : Edit) → IsEdit edit → claimed_edit (edit_text edit) ≡ edit
+unfolding claimed_edit edit_text
+claimed_back edit is =
+    let text : List ℕ = flat_map field_text (fields_of edit) in
+    ap (fold with_field (record { log = None; next = None; last = None; adds = []; drops = [] }))
+    (fields_back (length text) start (fields_of edit) is.fields (omega arith))
+    ∙ fields_make edit
 
-  -- the whole manifest, by what stands here
-  whole : (version : Option Version) (r : EditsRead name text given version) (here : Result (List Edit) Refusal) → edits_behind name text given ≡ here → edits_said name text ≡ (before_edits r.edits here >>= some_edits name)
-  unfolding edits_said
-  whole version r here is = ap (λ (edits : Result (List Edit) Refusal). edits >>= some_edits name) (r.is ∙ ap (before_edits r.edits) is)
+-- ---- which fields there are
 
-  pub edits_wrong : (version : Option Version) (place : ℕ) (payload : List ℕ) → EditsRead name text given version → IsRecord text given place payload → edit_of payload ≡ None → edits_said name text ≡ Err (Malformed name place)
-  edits_wrong version place payload r is none =
-      whole version r (Err (Malformed name place))
-      (at_record place payload is ∙ ap (λ (o : Option Edit). some_or (Malformed name place) o >>= λ (edit : Edit). edits_behind name text (given + 1) >>= λ (edits : List Edit). Ok (edit ∷ edits)) none)
+number_tested : (n : ℕ) → IsFileNumber n → number_fits n ≡ true
+number_tested n is = and_true _ _ (within 1 n is.some) (within n last_number is.most)
 
-  pub edits_trouble : (version : Option Version) (error : FrameError) (refusal : Refusal) → EditsRead name text given version → IfSome (ending_of (Err error)) (λ (e : Ending). EndsBehind text given e) → frame_trouble name error ≡ Some refusal
-      → edits_said name text ≡ Err refusal
-  edits_trouble version frame.ReadFault refusal r ends is = cc
-  edits_trouble version (frame.Damaged place kept found) refusal r ends is =
-      whole version r (Err (Damaged name place kept found)) (at_end (ending.Damaged place kept found) ends) ∙ ap Err (same_Some (Damaged name place kept found) refusal is)
-  edits_trouble version (frame.Malformed place) refusal r ends is =
-      whole version r (Err (Malformed name place)) (at_end (ending.Malformed place) ends) ∙ ap Err (same_Some (Malformed name place) refusal is)
-  edits_trouble version frame.NoMemory refusal r ends is = cc
+tested_number : (n : ℕ) → number_fits n ≡ true → IsFileNumber n
+tested_number n h =
+    let parts = and_parts (nat_le 1 n) (nat_le n last_number) h in
+    record { some = at_most 1 n parts.0; most = at_most n last_number parts.1 }
 
-  -- the end, where nothing is wrong behind the edits
-  all_read : (version : Option Version) (r : EditsRead name text given version) → edits_behind name text given ≡ Ok [] → edits_said name text ≡ some_edits name r.edits
-  all_read version r is = whole version r (Ok []) is ∙ ap (some_edits name) (nothing r.edits) where
-    nothing : (edits : List Edit) → edits ++ [] ≡ edits
-    nothing [] = refl
-    nothing (edit ∷ edits) = ap (λ (l : List Edit). edit ∷ l) (nothing edits)
+place_tested : (level number : ℕ) → IsPlace level number → place_fits level number ≡ true
+place_tested level number is = and_true _ _ (within level last_level is.level_is) (number_tested number is.number_is)
 
-  no_edits : (edits : List Edit) → None ≡ version_in edits → some_edits name edits ≡ Err (Malformed name 0)
-  no_edits [] is = refl
-  no_edits (edit ∷ edits) is = cc
+tested_place : (level number : ℕ) → place_fits level number ≡ true → IsPlace level number
+tested_place level number h =
+    let parts = and_parts (nat_le level last_level) (number_fits number) h in
+    record { level_is = at_most level last_level parts.0; number_is = tested_number number parts.1 }
 
-  some_version : (edits : List Edit) (v : Version) → Some v ≡ version_in edits → (some_edits name edits ≡ Ok edits) × (v ≡ version_of edits)
-  some_version [] v is = cc
-  some_version (edit ∷ edits) v is = (refl, same_Some v (version_of (edit ∷ edits)) is)
+key_fits_so : (bytes : List ℕ) → IsKey bytes → key_fits bytes ≡ true
+key_fits_so bytes is =
+    let low : length (user_key bytes) ≤ key_limit =
+    omega (arith, ap (length {A = ℕ}) (user_is bytes is.key is.sequence is.kind is.parts), is.fits) in
+    and_true _ _ (key_tested bytes is.key is.sequence is.kind is.parts) (within (length (user_key bytes)) key_limit low)
 
-  pub edits_none : (version : Option Version) → EditsRead name text given version → edits_behind name text given ≡ Ok [] → version ≡ None → edits_said name text ≡ Err (Malformed name 0)
-  edits_none version r is none = all_read version r is ∙ no_edits r.edits (sym none ∙ r.made)
+fitting_key : (bytes : List ℕ) → key_fits bytes ≡ true → IsKey bytes
+fitting_key bytes h =
+    let parts = and_parts (is_internal_key bytes) (nat_le (length (user_key bytes)) key_limit) h in
+    let key = tested_key bytes parts.0 in
+    record {
+      key = key.user;
+      sequence = key.sequence;
+      kind = key.kind;
+      parts = key.is;
+      fits = omega (arith, ap (length {A = ℕ}) (user_is bytes key.user key.sequence key.kind key.is), at_most (length (user_key bytes)) key_limit parts.1);
+    }
 
-  pub edits_done : (version : Option Version) (v : Version) → EditsRead name text given version → edits_behind name text given ≡ Ok [] → version ≡ Some v → GivesVersion (edits_said name text) v
-  edits_done version v r is some =
-      let says = some_version r.edits v (sym some ∙ r.made) in
-      record { edits = r.edits; is = all_read version r is ∙ says.0; made = says.1 }
+table_tested : (table : TableInfo) → IsTable table → table_fits table ≡ true
+table_tested table is =
+    and_true _ _
+    (and_true _ _ (and_true _ _ is.session (lesser table.size (2 ^ 64) is.size)) (key_fits_so table.smallest is.smallest))
+    (key_fits_so table.largest is.largest)
 
-  pub edits_small : (version : Option Version) (v : Version) → EditsRead name text given version → version ≡ Some v → v.last < 2 ^ 56
-  edits_small version v r some = subst (λ (o : Option Version). IfSome o (λ (w : Version). w.last < 2 ^ 56)) some r.small
+tested_table : (table : TableInfo) → table_fits table ≡ true → IsTable table
+tested_table table h =
+    let session : Bool = is_session table.session in
+    let size : Bool = nat_lt table.size (2 ^ 64) in
+    let one = and_parts (session && size && key_fits table.smallest) (key_fits table.largest) h in
+    let two = and_parts (session && size) (key_fits table.smallest) one.0 in
+    let three = and_parts session size two.0 in
+    record { session = three.0; size = less_than table.size (2 ^ 64) three.1; smallest = fitting_key table.smallest two.1; largest = fitting_key table.largest one.1 }
 
-  pub ended : EndsBehind text given ending.End → edits_behind name text given ≡ Ok []
-  ended ends = at_end ending.End ends
+field_tested : (field : Field) → InRange field → field_fits field ≡ true
+unfolding field_fits InRange
+field_tested (LogNumber n) is = number_tested n is
+field_tested (NextNumber n) is = and_true _ _ (within 1 n is.0) (lesser n (2 ^ 56) is.1)
+field_tested (LastSequence n) is = lesser n (2 ^ 56) is
+field_tested (Added add) is = and_true _ _ (place_tested add.level add.table.number is.0) (table_tested add.table is.1)
+field_tested (Dropped place) is = place_tested place.level place.number is
 
-  pub torn : (place : ℕ) → EndsBehind text given (ending.Torn place) → edits_behind name text given ≡ Ok []
-  torn place ends = at_end (ending.Torn place) ends
+tested_field : (field : Field) → field_fits field ≡ true → InRange field
+unfolding field_fits InRange
+tested_field (LogNumber n) h = tested_number n h
+tested_field (NextNumber n) h =
+    let parts = and_parts (nat_le 1 n) (nat_lt n (2 ^ 56)) h in (at_most 1 n parts.0, less_than n (2 ^ 56) parts.1)
+tested_field (LastSequence n) h = less_than n (2 ^ 56) h
+tested_field (Added add) h = let parts = and_parts (place_fits add.level add.table.number) (table_fits add.table) h in (tested_place add.level add.table.number parts.0, tested_table add.table parts.1)
+tested_field (Dropped place) h = tested_place place.level place.number h
 
-pub begun : (name : FileName) (text : List ℕ) → EditsRead name text 0 None
-begun name text = record { edits = []; is = none_before (edits_behind name text 0); made = refl; small = tt }
+-- ---- their order
 
-pub still_tells : (text : List ℕ) (before now : Viewed) → Tells before text → Stays before now → Tells now text
-still_tells text before now tells stays = record { bytes = stays.bytes ∙ tells.bytes; whole = tells.whole ∙ sym stays.len }
+or_left : (a b : Bool) → a ≡ true → (a || b) ≡ true
+or_left true b h = refl
+or_left false b h = cc
 
--- a view in memory counts no faults
-pub no_fault : (before now : ℕ) → now ≡ 0 → Rose before now → ⊥
-no_fault before now none rose = omega (arith, none, rose)
+or_right : (a b : Bool) → b ≡ true → (a || b) ≡ true
+or_right true b h = refl
+or_right false b h = h
 
--- ---- what the reader answers
+or_cases : (a b : Bool) → (a || b) ≡ true → (a ≡ true) ⊎ (b ≡ true)
+or_cases true b h = inl refl
+or_cases false b h = inr h
 
-module _ (name : FileName) (text : List ℕ) (given : ℕ) (found : Next) where
-  pub next_ended : found ≡ next.End → IfSome (ending_of (Ok found)) (λ (e : Ending). EndsBehind text given e) → edits_behind name text given ≡ Ok []
-  next_ended is ends = ended name text given (subst (λ (n : Next). IfSome (ending_of (Ok n)) (λ (e : Ending). EndsBehind text given e)) is ends)
+number_same : (m n : ℕ) → (m == n) ≡ true → m ≡ n
+number_same m n is = grind (arith, nat_tests)
 
-  pub next_torn : (place : ℕ) → found ≡ next.Torn place → IfSome (ending_of (Ok found)) (λ (e : Ending). EndsBehind text given e) → edits_behind name text given ≡ Ok []
-  next_torn place is ends = torn name text given place (subst (λ (n : Next). IfSome (ending_of (Ok n)) (λ (e : Ending). EndsBehind text given e)) is ends)
+same_number : (m n : ℕ) → m ≡ n → (m == n) ≡ true
+same_number m n is = grind (arith, nat_tests)
 
-  pub next_record : (place : ℕ) (payload : List ℕ) → found ≡ next.Record payload → IfSome (record_in (Ok found)) (λ (p : List ℕ). IsRecord text given place p) → IsRecord text given place payload
-  next_record place payload is stands = subst (λ (n : Next). IfSome (record_in (Ok n)) (λ (p : List ℕ). IsRecord text given place p)) is stands
+before_tested : (a b : Rank) → Before a b → comes_before a b ≡ true
+unfolding Before comes_before
+before_tested a b (inl tag) = or_left _ _ (lesser a.tag b.tag tag)
+before_tested a b (inr (tag, inl level)) =
+    or_right _ _ (and_true _ _ (same_number a.tag b.tag tag) (or_left _ _ (lesser a.level b.level level)))
+before_tested a b (inr (tag, inr (level, number))) =
+    or_right _ _ (and_true _ _ (same_number a.tag b.tag tag) (or_right _ _ (and_true _ _ (same_number a.level b.level level) (lesser a.number b.number number))))
 
-  pub next_given : (more : ℕ) (payload : List ℕ) → found ≡ next.Record payload → IfSome (record_in (Ok found)) (λ (_ : List ℕ). more ≡ given + 1) → more ≡ given + 1
-  next_given more payload is counted = subst (λ (n : Next). IfSome (record_in (Ok n)) (λ (_ : List ℕ). more ≡ given + 1)) is counted
+number_after : (a b : Rank) → a.tag ≡ b.tag
+    → (nat_lt a.level b.level ≡ true) ⊎ ((a.level == b.level && nat_lt a.number b.number) ≡ true) → Before a b
+unfolding Before
+number_after a b tag (inl level) = inr (tag, inl (less_than a.level b.level level))
+number_after a b tag (inr h) =
+    let parts = and_parts (a.level == b.level) (nat_lt a.number b.number) h in
+    inr (tag, inr (number_same a.level b.level parts.0, less_than a.number b.number parts.1))
 
-pub if_ok : {A E : Type 0} (P Q : A → Type 0) (r : Result A E) → IfOk r P → ((x : A) → P x → Q x) → IfOk r Q
-if_ok P Q (Ok x) h f = f x h
-if_ok P Q (Err e) h f = tt
+level_after : (a b : Rank) → (nat_lt a.tag b.tag ≡ true) ⊎ ((a.tag == b.tag && (nat_lt a.level b.level || (a.level == b.level && nat_lt a.number b.number))) ≡ true) → Before a b
+unfolding Before
+level_after a b (inl tag) = inl (less_than a.tag b.tag tag)
+level_after a b (inr h) =
+    let parts = and_parts (a.tag == b.tag) (nat_lt a.level b.level || (a.level == b.level && nat_lt a.number b.number)) h in
+    number_after a b (number_same a.tag b.tag parts.0)
+    (or_cases (nat_lt a.level b.level) (a.level == b.level && nat_lt a.number b.number) parts.1)
 
-pub if_err : {A E : Type 0} (P Q : E → Type 0) (r : Result A E) → IfErr r P → ((e : E) → P e → Q e) → IfErr r Q
-if_err P Q (Ok x) h f = tt
-if_err P Q (Err e) h f = f e h
+tested_before : (a b : Rank) → comes_before a b ≡ true → Before a b
+unfolding comes_before
+tested_before a b h = level_after a b (or_cases (nat_lt a.tag b.tag) (a.tag == b.tag && (nat_lt a.level b.level || (a.level == b.level && nat_lt a.number b.number))) h)
 
-pub if_some : {A : Type 0} (P Q : A → Type 0) (o : Option A) → IfSome o P → ((x : A) → P x → Q x) → IfSome o Q
-if_some P Q None h f = tt
-if_some P Q (Some x) h f = f x h
+fields_tested : (after : Rank) (fields : List Field) → AreFields after fields → fields_fit after fields ≡ true
+unfolding AreFields
+fields_tested after [] are = refl
+fields_tested after (field ∷ fields) are =
+    and_true _ _ (and_true _ _ (field_tested field are.0.range) (before_tested after (rank_of field) are.0.behind))
+    (fields_tested (rank_of field) fields are.1)
 
--- an error that is this refusal
-pub refused_as : {A : Type 0} (read : Result A Refusal) (refusal : Refusal) (error : PlainError) → error ≡ Refused refusal → read ≡ Err refusal → IsRefusedBy read error
-refused_as read refusal error is says = subst (λ (e : PlainError). IsRefusedBy read e) (sym is) says
+pub tested_fields : (after : Rank) (fields : List Field) → fields_fit after fields ≡ true → AreFields after fields
+unfolding AreFields
+tested_fields after [] h = tt
+tested_fields after (field ∷ fields) h =
+    let one = and_parts (field_fits field && comes_before after (rank_of field)) (fields_fit (rank_of field) fields) h in
+    let two = and_parts (field_fits field) (comes_before after (rank_of field)) one.0 in
+    (record { range = tested_field field two.0; behind = tested_before after (rank_of field) two.1 }, tested_fields (rank_of field) fields one.1)
+
+-- ---- edits
+
+abbrev taken : List ℕ → Edit → Option Edit
+taken text edit = cond (fields_fit start (fields_of edit) && bytes_eq text (edit_text edit)) (Some edit) None
+
+pub edit_back : (text : List ℕ) (edit : Edit) → IsEditText text edit → edit_of text ≡ Some edit
+unfolding edit_of
+edit_back text edit is =
+    ap (taken text) (ap claimed_edit is.is ∙ claimed_back edit is.edit_is)
+    ∙ ap (λ (b : Bool). cond b (Some edit) None)
+    (and_true _ _ (fields_tested start (fields_of edit) is.edit_is.fields) (ap (bytes_eq text) (sym is.is) ∙ same_text text))
+
+-- only an edit's text gives the edit
+pub edit_only : (text : List ℕ) (edit : Edit) → edit_of text ≡ Some edit → IsEditText text edit
+unfolding edit_of
+edit_only text edit h =
+    let found : Edit = claimed_edit text in
+    elim (fields_fit start (fields_of found) && bytes_eq text (edit_text found)) as (λ b. (fields_fit start (fields_of found) && bytes_eq text (edit_text found)) ≡ b → cond b (Some found) None ≡ Some edit → IsEditText text edit) [
+      | true ↦ λ is e.
+          let parts = and_parts (fields_fit start (fields_of found)) (bytes_eq text (edit_text found)) is in
+          subst (IsEditText text) (same_Some found edit e) (record { is = equal_texts text (edit_text found) parts.1; edit_is = record { fields = tested_fields start (fields_of found) parts.0 } })
+      | false ↦ λ is e. cc
+    ] refl h

@@ -1,5 +1,5 @@
 -- A text is the spelling of at most one name, and `name_of` finds it.
-use Rattle.std.specs.Prelude.{◌≡◌, ℕ, Bool, true, false, cond, ◌&&◌, List, [], ◌∷◌, ◌++◌, Some, None, codes, unwrap_or}
+use Rattle.std.specs.Prelude.{◌≡◌, ℕ, Bool, true, false, cond, ◌&&◌, List, [], ◌∷◌, ◌++◌, Some, None, codes}
 use Rattle.std.proofs.Common.{refl, sym, ap, subst, ◌∙◌}
 use Rattle.std.specs.List.{filter, find, list_all}
 use Rattle.std.specs.Char.{is_ascii_digit}
@@ -23,10 +23,12 @@ filter_all : {X : Type 0} (test : X → Bool) (xs : List X) → list_all test xs
 filter_all test [] h = refl
 filter_all test (x ∷ xs) h =
     let parts = and_parts (test x) (list_all test xs) h in
-    ap (λ (b : Bool). cond b (x ∷ filter test xs) (filter test xs)) parts.0 ∙ ap (λ (l : List _). x ∷ l) (filter_all test xs parts.1)
+    ap (λ (b : Bool). cond b (x ∷ filter test xs) (filter test xs)) parts.0
+    ∙ ap (λ (l : List _). x ∷ l) (filter_all test xs parts.1)
 
 -- digits between two texts that have none
-digits_between : (before behind : List ℕ) (number : ℕ) → filter is_ascii_digit before ≡ [] → filter is_ascii_digit behind ≡ [] → is_file_number number ≡ true
+digits_between : (before behind : List ℕ) (number : ℕ) → filter is_ascii_digit before ≡ [] → filter is_ascii_digit behind ≡ []
+    → is_file_number number ≡ true
     → digits_in (before ++ (six_digits number ++ behind)) ≡ number
 unfolding digits_in
 digits_between before behind number none no_more fits =
@@ -57,7 +59,8 @@ pub record Spells (text : List ℕ) (name : FileName) : Type 0 where
   pub fits : IsFileName name
   pub is : text ≡ spelled name
 
-numbered : (text : List ℕ) (number : ℕ) (name : FileName) → (is_file_number number && bytes_eq text (spelled name)) ≡ true → (is_file_number number ≡ true) × (text ≡ spelled name)
+numbered : (text : List ℕ) (number : ℕ) (name : FileName) → (is_file_number number && bytes_eq text (spelled name)) ≡ true
+    → (is_file_number number ≡ true) × (text ≡ spelled name)
 numbered text number name h =
     let parts = and_parts (is_file_number number) (bytes_eq text (spelled name)) h in
     (parts.0, equal_texts text (spelled name) parts.1)
@@ -91,16 +94,19 @@ module _ {X : Type 0} (test : X → Bool) where
     | false ↦ λ is e. found_is xs x e
   ] refl h
 
-  found_one : (x : X) → ((y : X) → test y ≡ true → y ≡ x) → test x ≡ true → (front back : List X) → find test (front ++ x ∷ back) ≡ Some x
+  found_one : (x : X) → ((y : X) → test y ≡ true → y ≡ x) → test x ≡ true → (front back : List X)
+      → find test (front ++ x ∷ back) ≡ Some x
   found_one x only is [] back = ap (λ (b : Bool). cond b (Some x) (find test back)) is
-  found_one x only is (y ∷ front) back = elim (test y) as (λ b. test y ≡ b → cond b (Some y) (find test (front ++ x ∷ back)) ≡ Some x) [
-    | true ↦ λ yes. ap Some (only y yes)
-    | false ↦ λ other. found_one x only is front back
-  ] refl
+  found_one x only is (y ∷ front) back =
+      elim (test y) as (λ b. test y ≡ b → cond b (Some y) (find test (front ++ x ∷ back)) ≡ Some x) [
+        | true ↦ λ yes. ap Some (only y yes)
+        | false ↦ λ other. found_one x only is front back
+      ] refl
 
 -- ---- names
 
-found_name : (name : FileName) → IsFileName name → (front back : List FileName) → names_of (digits_in (spelled name)) ≡ front ++ name ∷ back → name_of (spelled name) ≡ Some name
+found_name : (name : FileName) → IsFileName name → (front back : List FileName)
+    → names_of (digits_in (spelled name)) ≡ front ++ name ∷ back → name_of (spelled name) ≡ Some name
 unfolding name_of
 found_name name fits front back is =
     ap (find (is_spelling (spelled name))) is
@@ -109,11 +115,17 @@ found_name name fits front back is =
 -- a name's spelling gives the name
 pub name_again : (name : FileName) → IsFileName name → name_of (spelled name) ≡ Some name
 unfolding spelled
-name_again (Log n) h = found_name (Log n) h [] (Table n ∷ Manifest n ∷ Temp n ∷ Current ∷ []) (ap names_of (digits_between [] (codes ".log") n refl refl h))
-name_again (Table n) h = found_name (Table n) h (Log n ∷ []) (Manifest n ∷ Temp n ∷ Current ∷ []) (ap names_of (digits_between [] (codes ".sst") n refl refl h))
+name_again (Log n) h =
+    found_name (Log n) h [] (Table n ∷ Manifest n ∷ Temp n ∷ Current ∷ [])
+    (ap names_of (digits_between [] (codes ".log") n refl refl h))
+name_again (Table n) h =
+    found_name (Table n) h (Log n ∷ []) (Manifest n ∷ Temp n ∷ Current ∷ [])
+    (ap names_of (digits_between [] (codes ".sst") n refl refl h))
 name_again (Manifest n) h = found_name (Manifest n) h (Log n ∷ Table n ∷ []) (Temp n ∷ Current ∷ [])
     (ap names_of (ap (λ (l : List ℕ). digits_in (codes "MANIFEST-" ++ l)) (sym (append-nil (six_digits n))) ∙ digits_between (codes "MANIFEST-") [] n refl refl h))
-name_again (Temp n) h = found_name (Temp n) h (Log n ∷ Table n ∷ Manifest n ∷ []) (Current ∷ []) (ap names_of (digits_between [] (codes ".dbtmp") n refl refl h))
+name_again (Temp n) h =
+    found_name (Temp n) h (Log n ∷ Table n ∷ Manifest n ∷ []) (Current ∷ [])
+    (ap names_of (digits_between [] (codes ".dbtmp") n refl refl h))
 name_again Current h =
     let n = digits_in (spelled Current) in
     found_name Current h (Log n ∷ Table n ∷ Manifest n ∷ Temp n ∷ []) [] refl
@@ -130,7 +142,9 @@ pub manifest_again : (number : ℕ) → is_file_number number ≡ true → manif
 unfolding manifest_in current_text spelled
 manifest_again number fits =
     let text = current_text number in
-    let is : digits_in text ≡ number = ap digits_in (append_assoc (codes "MANIFEST-") (six_digits number) (10 ∷ [])) ∙ digits_between (codes "MANIFEST-") (10 ∷ []) number refl refl fits in
+    let is : digits_in text ≡ number =
+    ap digits_in (append_assoc (codes "MANIFEST-") (six_digits number) (10 ∷ []))
+    ∙ digits_between (codes "MANIFEST-") (10 ∷ []) number refl refl fits in
     ap (λ (n : ℕ). cond (is_file_number n && bytes_eq text (current_text n)) (Some n) None) is
     ∙ ap (λ (b : Bool). cond b (Some number) None) (and_true (is_file_number number) _ fits (same_text text))
 
@@ -146,6 +160,7 @@ manifest_only text number h =
     elim (is_file_number n && bytes_eq text (current_text n)) as (λ b. (is_file_number n && bytes_eq text (current_text n)) ≡ b → cond b (Some n) None ≡ Some number → NamesManifest text number) [
       | true ↦ λ is e.
           let parts = and_parts (is_file_number n) (bytes_eq text (current_text n)) is in
-          subst (NamesManifest text) (same_Some n number e) (record { fits = parts.0; is = equal_texts text (current_text n) parts.1 })
+          subst (NamesManifest text) (same_Some n number e)
+          (record { fits = parts.0; is = equal_texts text (current_text n) parts.1 })
       | false ↦ λ is e. cc
     ] refl h

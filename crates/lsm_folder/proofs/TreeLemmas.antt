@@ -23,7 +23,8 @@ module _ (dir : List ℕ) (tree : Tree) (text : List ℕ) (has : HasOneLogAt dir
   not_there number high None is = refl
   not_there number high (Some item) is =
       let fits : IsFileName (Log number) = file_names dir tree (Log number) item has.named is in
-      ap bytes_in (sym is ∙ files_are dir tree (Log number) has.named fits) ∙ no_file tree.contents (finmap.get tree.names (dir ++ 47 ∷ spelled (Log number))) (has.no_other number high)
+      ap bytes_in (sym is ∙ files_are dir tree (Log number) has.named fits)
+      ∙ no_file tree.contents (finmap.get tree.names (dir ++ 47 ∷ spelled (Log number))) (has.no_other number high)
 
   pub one_log_at : HasOneLog files text
   one_log_at = record {

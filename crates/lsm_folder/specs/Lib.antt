@@ -1,8 +1,14 @@
 pub mod Batches
+pub mod Blocks
 pub mod Edits
 pub mod Files
+pub mod Keys
 pub mod Logs
+pub mod Manifests
 pub mod Names
 pub mod Needed
-pub mod Plain
+pub mod Parts
 pub mod Reading
+pub mod Steps
+pub mod Tables
+pub mod Walks

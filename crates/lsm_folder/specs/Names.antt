@@ -48,6 +48,14 @@ names_exact (Temp m) (Temp n) e = ap Temp (exact_unsigned m n e)
 names_exact Current Current e = refl
 names_exact a b e = cc
 
+-- the number of a manifest's name; other names have none
+abbrev pub manifest_number : FileName → Option ℕ
+manifest_number (Log number) = None
+manifest_number (Table number) = None
+manifest_number (Manifest number) = Some number
+manifest_number (Temp number) = None
+manifest_number Current = None
+
 -- ---- from a text to its name
 
 -- the number that the digits of a text make, whatever else stands in it

@@ -1,8 +1,9 @@
 //! Why a folder can't be read as a store's.
 use lsm_names::FileName;
 
-/// Why a folder can't be read as a store's: the first trouble, where `CURRENT` is read first, then the manifest, and then
-/// the logs by their numbers, each from its start on. Places are counted in bytes from the file's start.
+/// Why a folder can't be read as a store's: the first trouble, where `CURRENT` is read first, then the manifest, then the
+/// version's tables by their numbers, and then the logs by theirs, each from its start on. Places and lengths are counted
+/// in bytes.
 #[derive(Clone, Copy, Debug, PartialEq, Eq)]
 pub enum Refusal {
     /// No folder stands there.
@@ -13,12 +14,18 @@ pub enum Refusal {
     Missing {
         name: FileName,
     },
+    /// A table has `found` bytes, and the version says that it has `kept`.
+    Short {
+        name: FileName,
+        kept: u64,
+        found: u64,
+    },
     /// What begins here isn't what the file may hold here.
     Malformed {
         name: FileName,
         place: u64,
     },
-    /// The piece here is whole, and its checksum differs: the one that it keeps, and the one that its bytes have, both
+    /// What begins here is whole, and its checksum differs: the one that it keeps, and the one that its bytes have, both
     /// masked.
     Damaged {
         name: FileName,
@@ -36,5 +43,11 @@ pub enum Refusal {
         name: FileName,
         kept: u64,
         found: u64,
+    },
+    /// An edit would leave two tables of a level from 1 on that overlap, `left` with the smaller number.
+    BadLevels {
+        level: u8,
+        left: u64,
+        right: u64,
     },
 }

@@ -60,6 +60,7 @@ impl MemTable {
         requires past { AllBefore first self.old }
         requires last { first + length batch.now ≤ 2 ^ 56 }
         ensures ok { OnOk result (AreJoined self.old (batch_rows first batch.now) self.new) }
+        ensures undo { OnOk result (filter (λ row. nat_lt row.sequence first) self.new ≡ self.old) }
         ensures before { OnOk result (AllBefore (first + length batch.now) self.new) }
         ensures err { OnErr result (self.new ≡ self.old) }
     {
@@ -139,6 +140,7 @@ fn push_all(alloc: Global, rows: &mut RowMap, first: u64, ops: &[Op]) -> Result<
     requires last { first + length ops.now ≤ 2 ^ 56 }
     requires order { AreInOrder rows.old }
     ensures ok { OnOk result (AreJoined rows.old (batch_rows first ops.now) rows.new) }
+    ensures undo { OnOk result (filter (λ row. nat_lt row.sequence first) rows.new ≡ rows.old) }
     ensures before { OnOk result (AllBefore (first + length ops.now) rows.new) }
     ensures err { OnErr result (rows.new ≡ rows.old) }
 {
@@ -157,6 +159,7 @@ fn push_each(alloc: Global, rows: &mut RowMap, first: u64, ops: &[Op]) -> Result
     requires last { first + length ops.now ≤ 2 ^ 56 }
     requires order { AreInOrder rows.old }
     ensures ok { OnOk result (AreJoined rows.old (batch_rows first ops.now) rows.new) }
+    ensures undo { OnOk result (filter (λ row. nat_lt row.sequence first) rows.new ≡ rows.old) }
     ensures before { OnOk result (AllBefore (first + length ops.now) rows.new) }
     ensures err { OnErr result (filter (λ row. nat_lt row.sequence first) rows.new ≡ rows.old) }
 {

@@ -1,7 +1,7 @@
 -- Which count rose, over one call after another.
-use Rattle.std.specs.Prelude.{◌≡◌, ℕ, ◌<◌, ◌≤◌, ◌+◌, ◌^◌, ◌-◌, List, min, Result, Ok, Err, IfErr}
+use Rattle.std.specs.Prelude.{◌≡◌, ℕ, ◌<◌, ◌≤◌, List, Result, Ok, Err, IfErr}
 use Rattle.std.proofs.Common.{arith, sym, subst}
-use Rattle.lsm_io.specs.Causes.{Rose, risen}
+use Rattle.lsm_io.specs.Causes.{Rose}
 use Rattle.lsm_disk.specs.State.{Seen}
 use Rattle.lsm_disk.specs.Viewed.{Viewed}
 use Rattle.lsm_disk.specs.Answers.{HasRisen}
@@ -9,9 +9,9 @@ use Rattle.lsm_disk.specs.declared.calls.DiskError.{DiskError}
 use Rattle.lsm_disk.specs.declared.calls.DiskError.TheVariants as disk
 use Rattle.lsm_disk.specs.declared.calls.Halt.{Halt}
 use Rattle.lsm_recover.specs.declared.errors.FolderError.{FolderError}
-use Rattle.lsm_recover.specs.declared.errors.FolderError.TheVariants.{DiskFault, NoFolder, NoCurrent, Missing, Changed, Damaged, Malformed, TornLog, Gap, NoMemory}
+use Rattle.lsm_recover.specs.declared.errors.FolderError.TheVariants.{DiskFault, NoFolder, NoCurrent, Missing, Changed, Short, Damaged, Malformed, TornLog, Gap, BadLevels, NoMemory}
 use Rattle.lsm_disk.specs.declared.calls.DiskRefusal.{DiskRefusal}
-use Rattle.lsm_recover.specs.Causes.{error_for, error_by, HasRisenBy, HasRisenIn, HasFolderCause}
+use Rattle.lsm_recover.specs.Causes.{error_for, error_by, HasRisenBy, HasRisenIn, IsOfBytes, HasFolderCause}
 
 pub rose_wider : (first old new last : ℕ) → first ≤ old → new ≤ last → Rose old new → Rose first last
 rose_wider first old new last before behind rose = omega (arith, before, behind, rose)
@@ -36,10 +36,12 @@ view_risen dir old mid new before now (NoFolder at) rose fresh closed later = ab
 view_risen dir old mid new before now (NoCurrent at) rose fresh closed later = absurd rose
 view_risen dir old mid new before now (Missing name) rose fresh closed later = absurd rose
 view_risen dir old mid new before now (Changed call path) rose fresh closed later = absurd rose
+view_risen dir old mid new before now (Short name kept found) rose fresh closed later = tt
 view_risen dir old mid new before now (Damaged name place kept found) rose fresh closed later = tt
 view_risen dir old mid new before now (Malformed name place) rose fresh closed later = tt
 view_risen dir old mid new before now (TornLog name place) rose fresh closed later = tt
 view_risen dir old mid new before now (Gap name kept found) rose fresh closed later = tt
+view_risen dir old mid new before now (BadLevels level left right) rose fresh closed later = tt
 view_risen dir old mid new before now NoMemory rose fresh closed later = tt
 
 -- an error of a later or an earlier call is one of both
@@ -50,10 +52,12 @@ risen_wider dir first old new last (NoFolder at) f r g q rose = (rose.0, rose_wi
 risen_wider dir first old new last (NoCurrent at) f r g q rose = (rose.0, rose_wider first.refusals old.refusals new.refusals last.refusals r q rose.1)
 risen_wider dir first old new last (Missing name) f r g q rose = rose_wider first.refusals old.refusals new.refusals last.refusals r q rose
 risen_wider dir first old new last (Changed call path) f r g q rose = rose_wider first.refusals old.refusals new.refusals last.refusals r q rose
+risen_wider dir first old new last (Short name kept found) f r g q rose = tt
 risen_wider dir first old new last (Damaged name place kept found) f r g q rose = tt
 risen_wider dir first old new last (Malformed name place) f r g q rose = tt
 risen_wider dir first old new last (TornLog name place) f r g q rose = tt
 risen_wider dir first old new last (Gap name kept found) f r g q rose = tt
+risen_wider dir first old new last (BadLevels level left right) f r g q rose = tt
 risen_wider dir first old new last NoMemory f r g q rose = tt
 
 -- ---- whole causes
@@ -79,3 +83,35 @@ cause_then dir old mid new (Err error) f r cause = record {
   refusals_later = omega (arith, r, cause.refusals_later);
   counted = risen_wider dir old mid new new error f r (omega arith) (omega arith) cause.counted;
 }
+
+-- ---- errors of the bytes
+
+pub bytes_risen : (before now : Viewed) (error : FolderError) → IsOfBytes error → HasRisenIn before now error
+bytes_risen before now DiskFault of = absurd of
+bytes_risen before now (NoFolder at) of = absurd of
+bytes_risen before now (NoCurrent at) of = absurd of
+bytes_risen before now (Missing name) of = absurd of
+bytes_risen before now (Changed call path) of = absurd of
+bytes_risen before now (Short name kept found) of = tt
+bytes_risen before now (Damaged name place kept found) of = tt
+bytes_risen before now (Malformed name place) of = tt
+bytes_risen before now (TornLog name place) of = tt
+bytes_risen before now (Gap name kept found) of = tt
+bytes_risen before now (BadLevels level left right) of = tt
+bytes_risen before now NoMemory of = tt
+
+-- ---- views that were read for longer
+
+pub risen_in_wider : (first old new last : Viewed) (error : FolderError) → first.faults ≤ old.faults → new.faults ≤ last.faults → HasRisenIn old new error → HasRisenIn first last error
+risen_in_wider first old new last DiskFault f g rose = rose_wider first.faults old.faults new.faults last.faults f g rose
+risen_in_wider first old new last (NoFolder at) f g rose = rose
+risen_in_wider first old new last (NoCurrent at) f g rose = rose
+risen_in_wider first old new last (Missing name) f g rose = rose
+risen_in_wider first old new last (Changed call path) f g rose = rose
+risen_in_wider first old new last (Short name kept found) f g rose = tt
+risen_in_wider first old new last (Damaged name place kept found) f g rose = tt
+risen_in_wider first old new last (Malformed name place) f g rose = tt
+risen_in_wider first old new last (TornLog name place) f g rose = tt
+risen_in_wider first old new last (Gap name kept found) f g rose = tt
+risen_in_wider first old new last (BadLevels level left right) f g rose = tt
+risen_in_wider first old new last NoMemory f g rose = tt

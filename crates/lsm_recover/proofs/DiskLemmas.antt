@@ -1,10 +1,10 @@
 -- What a disk call for a file of a folder tells of the folder's files.
-use Rattle.std.specs.Prelude.{◌≡◌, ℕ, zero, suc, ◌≤◌, Bool, true, false, cond, is_some, List, [], ◌∷◌, ◌++◌, length, slice_get, Option, Some, None, option_map, unwrap_or, Result, Ok, Err}
+use Rattle.std.specs.Prelude.{◌≡◌, ℕ, zero, suc, ◌≤◌, Bool, true, false, cond, is_some, List, [], ◌∷◌, ◌++◌, length, slice_get, Option, Some, None, option_map, unwrap_or, Result, Err}
 use Rattle.std.proofs.Common.{refl, sym, ap, subst, ◌∙◌}
 use Rattle.std.specs.FinMap as map
 use Rattle.lsm_names.specs.declared.file_names.FileName.{FileName}
 use Rattle.lsm_names.specs.FileNames.{spelled, IsFileName}
-use Rattle.lsm_disk.specs.Names.{Node, Folder_node, File_node, Names, id_of, is_folder, is_folder_node, stands}
+use Rattle.lsm_disk.specs.Names.{Node, Folder_node, File_node, id_of, is_folder, is_folder_node, stands}
 use Rattle.lsm_disk.specs.State.{FileState, State, names_now, bytes_of, file_or, file_by, file_now}
 use Rattle.lsm_disk.specs.Images.{contents_of, tree_now}
 use Rattle.lsm_disk.specs.Refusals.{no_file, no_folder}
@@ -14,12 +14,14 @@ use Rattle.lsm_disk.specs.declared.calls.DiskError.TheVariants as disk
 use Rattle.lsm_disk.specs.declared.calls.Halt.{Halt}
 use Rattle.lsm_folder.specs.declared.refusals.Refusal.{Refusal}
 use Rattle.lsm_folder.specs.declared.refusals.Refusal.TheVariants.{NoFolder}
-use Rattle.lsm_folder.specs.Files.{Item, item_of, bytes_in, file_at, files_in, place_of, Place, Nothing, Not_a_folder, Stands_with}
-use Rattle.lsm_folder.specs.Reading.{reading, Shown}
+use Rattle.lsm_folder.specs.Files.{item_of, bytes_in, file_at, files_in, place_of, Stands_with}
 use Rattle.lsm_folder.proofs.FileLemmas.{files_are, no_place, folder_place, file_place}
+use Rattle.lsm_disk.specs.declared.calls.DiskRefusal.{DiskRefusal}
 use Rattle.lsm_recover.specs.declared.errors.FolderError.{FolderError}
+use Rattle.lsm_recover.specs.declared.errors.FolderError.TheVariants as told
 use Rattle.lsm_recover.specs.Answers.{IsRefusedBy}
-use Rattle.lsm_recover.specs.Causes.{error_for}
+use Rattle.lsm_recover.specs.Causes.{error_for, error_by}
+use Rattle.lsm_recover.specs.Head.{edits_there}
 
 contents_at : (fs : List FileState) (id : ℕ) → unwrap_or (slice_get (contents_of fs) id) [] ≡ bytes_of (file_or (slice_get fs id))
 contents_at [] id = refl
@@ -67,13 +69,18 @@ refused_call read missing at disk.NoMemory b is none = tt
 
 -- ---- the folder
 
-no_place_by : (dir : List ℕ) (s : State) (o : Option Node) → stands (names_now s) dir ≡ o → cond (is_folder_node o) None (Some disk.NotThere) ≡ Some disk.NotThere → reading (place_of dir (tree_now s)) ≡ Err NoFolder
-no_place_by dir s None is none = ap reading (no_place dir (tree_now s) is)
+no_place_by : (dir : List ℕ) (s : State) (o : Option Node) → stands (names_now s) dir ≡ o → cond (is_folder_node o) None (Some disk.NotThere) ≡ Some disk.NotThere → edits_there (place_of dir (tree_now s)) ≡ Err NoFolder
+no_place_by dir s None is none = ap edits_there (no_place dir (tree_now s) is)
 no_place_by dir s (Some Folder_node) is none = cc
-no_place_by dir s (Some (File_node id)) is none = ap reading (file_place dir (tree_now s) id is)
+no_place_by dir s (Some (File_node id)) is none = ap edits_there (file_place dir (tree_now s) id is)
 
-pub folder_missing : (dir : List ℕ) (s : State) → no_folder dir s ≡ Some disk.NotThere → reading (place_of dir (tree_now s)) ≡ Err NoFolder
+pub folder_missing : (dir : List ℕ) (s : State) → no_folder dir s ≡ Some disk.NotThere → edits_there (place_of dir (tree_now s)) ≡ Err NoFolder
 folder_missing dir s none = no_place_by dir s (stands (names_now s) dir) refl none
+
+-- a refused listing
+pub list_refused : (dir : List ℕ) (s : State) (r : DiskRefusal) (error : FolderError) → error ≡ error_by (told.NoFolder dir) r → RefusesBy (no_folder dir s) r.why → IsRefusedBy (edits_there (place_of dir (tree_now s))) error
+list_refused dir s r error is refused = subst (λ (e : FolderError). IsRefusedBy (edits_there (place_of dir (tree_now s))) e) (sym is)
+    (refused_call (edits_there (place_of dir (tree_now s))) (told.NoFolder dir) r.at r.why (is_folder (names_now s) dir) refused (folder_missing dir s))
 
 is_there : (b : Bool) → cond b None (Some disk.NotThere) ≡ None → b ≡ true
 is_there true is = refl

@@ -5,18 +5,18 @@ use Rattle.std.specs.FinMap as finmap
 use Rattle.lsm_names.specs.declared.file_names.FileName.TheVariants.{Log}
 use Rattle.lsm_names.specs.FileNames.{spelled, IsFileName}
 use Rattle.lsm_names.specs.Paths.{is_path}
-use Rattle.lsm_disk.specs.Names.{Node, Folder_node, File_node, Names, path_cmp}
+use Rattle.lsm_disk.specs.Names.{Node, Folder_node, File_node, Names}
 use Rattle.lsm_disk.specs.State.{Story, state_of, names_now}
 use Rattle.lsm_disk.specs.Images.{Tree, tree_now}
 use Rattle.lsm_disk.specs.declared.listing.Entry.{Entry}
-use Rattle.lsm_folder.specs.Files.{Item, A_file, A_folder, Files, bytes_in, item_of, file_at}
-use Rattle.lsm_folder.specs.Reading.{LogText, log_of, logs_of}
+use Rattle.lsm_folder.specs.Files.{A_file, Files, bytes_in, item_of, file_at}
+use Rattle.lsm_folder.specs.Logs.{log_of, logs_of}
 use Rattle.lsm_folder.proofs.FileLemmas.{files_are, file_names}
 use Rattle.lsm_recover.specs.Answers.{files_now}
 use Rattle.lsm_recover.specs.Listed.{IsListing, next_log}
 use Rattle.lsm_recover.proofs.ListLemmas.{no_logs, first_log}
 use Rattle.lsm_recover.proofs.NextLogLemmas.{IsAtMost, log_told}
-use Rattle.lsm_recover.proofs.FoundLogLemmas.{IsLogOf, log_is}
+use Rattle.lsm_recover.proofs.FoundLogLemmas.{log_is}
 use Rattle.lsm_folder.proofs.LiveLemmas.{a_file}
 
 a_node : (contents : List (List ℕ)) (o : Option Node) (bytes : List ℕ) → option_map (item_of contents) o ≡ Some (A_file bytes) → (id : ℕ) × (o ≡ Some (File_node id))

@@ -1,11 +1,9 @@
 -- The number that a listing tells is that of a log of the disk.
-use Rattle.std.specs.Prelude.{◌≡◌, ◌⊎◌, ℕ, ◌+◌, ◌≤◌, ◌<◌, Bool, true, false, cond, ◌&&◌, ◌==◌, nat_le, min, is_some, List, [], ◌∷◌, ◌++◌, length, T, Option, Some, None, unwrap_or}
+use Rattle.std.specs.Prelude.{◌≡◌, ◌⊎◌, ℕ, ◌≤◌, Bool, true, false, cond, nat_le, min, is_some, List, [], ◌∷◌, ◌++◌, T, Option, Some, None}
 use Rattle.std.proofs.Common.{refl, sym, ap, subst, ◌∙◌, arith, ⊎_elim, inl, inr}
 use Rattle.std.proofs.lemmas.Bool.Decides.{nat_tests}
-use Rattle.std.specs.Option.{option_and_then}
 use Rattle.std.specs.Ordering.{eq_by_cmp, is_lt, is_eq}
 use Rattle.std.specs.declared.cmp.Ordering.{Ordering}
-use Rattle.std.specs.declared.cmp.Ordering.TheVariants.{Less, Equal, Greater}
 use Rattle.std.specs.FinMap as finmap
 use Rattle.std.specs.FinMap.Entries.{below_all, is_sorted}
 use Rattle.lsm_names.specs.declared.file_names.FileName.{FileName}
@@ -14,14 +12,13 @@ use Rattle.lsm_names.specs.FileNames.{spelled, is_file_number}
 use Rattle.lsm_names.specs.Paths.{is_path, cut_last}
 use Rattle.lsm_disk.specs.Names.{Node, Folder_node, File_node, path_cmp, inside, under, after_slash}
 use Rattle.lsm_disk.specs.Listing.{kind_by, one_part, listed_name, with_entry, listed}
-use Rattle.lsm_disk.specs.declared.listing.Entry.{Entry}
-use Rattle.lsm_disk.proofs.Paths.{same_path, path_itself, number}
+use Rattle.lsm_disk.proofs.Paths.{same_path, path_itself}
 use Rattle.lsm_disk.proofs.Moves.{under_is}
 use Rattle.lsm_folder.specs.Names.{name_of}
 use Rattle.lsm_folder.proofs.NameLemmas.{name_only}
-use Rattle.lsm_recover.specs.Listed.{log_in, log_number, number_by, lesser, next_log}
+use Rattle.lsm_recover.specs.Listed.{log_in, log_number, lesser, next_log}
 use Rattle.std.proofs.lemmas.Option.{same_Some}
-use Rattle.lsm_folder.proofs.FileLemmas.{first_is, slash_is}
+use Rattle.lsm_folder.proofs.FileLemmas.{slash_is}
 use Rattle.lsm_folder.proofs.LiveLemmas.{all_below, less}
 
 abbrev head_or : List ℕ → ℕ

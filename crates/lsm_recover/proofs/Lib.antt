@@ -1,7 +1,11 @@
+pub mod AnswerLemmas
 pub mod CauseLemmas
 pub mod DiskLemmas
+pub mod FolderLemmas
 pub mod FolderLogLemmas
 pub mod FoundLogLemmas
+pub mod GatheredLemmas
+pub mod HeadLemmas
 pub mod ListLemmas
 pub mod ListedLemmas
 pub mod LogPartLemmas
@@ -11,3 +15,8 @@ pub mod NextLogLemmas
 pub mod OpenLemmas
 pub mod PartLemmas
 pub mod ReplayLemmas
+pub mod RowLemmas
+pub mod SoundLemmas
+pub mod StatedLemmas
+pub mod TablesLemmas
+pub mod WalkedLemmas

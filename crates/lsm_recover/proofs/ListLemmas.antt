@@ -1,32 +1,18 @@
 -- The logs that a listing tells are those of the folder.
-use Rattle.std.specs.Prelude.{◌≡◌, ℕ, ◌+◌, ◌<◌, ◌≤◌, Bool, true, false, cond, ◌&&◌, ◌==◌, nat_le, min, is_some, List, [], ◌∷◌, ◌++◌, map, length, T, Option, Some, None, option_map}
+use Rattle.std.specs.Prelude.{◌≡◌, ℕ, ◌+◌, ◌<◌, ◌≤◌, Bool, true, false, cond, ◌&&◌, nat_le, List, [], ◌∷◌, map, T, Option, Some, None, option_map}
 use Rattle.std.proofs.Common.{refl, sym, ap, subst, ◌∙◌, arith, ⊎_elim}
 use Rattle.std.proofs.lemmas.Bool.Decides.{nat_tests}
-use Rattle.std.proofs.lemmas.Bool.{cases_lt, and_parts}
-use Rattle.std.specs.Ordering.{nat_cmp, eq_by_cmp, is_lt, is_eq}
+use Rattle.std.proofs.lemmas.Bool.{cases_lt}
+use Rattle.std.specs.Ordering.{nat_cmp, eq_by_cmp, is_lt}
 use Rattle.std.specs.Cmp.{nat_cmp_total}
-use Rattle.std.specs.List.{list_all, filter_map, cons_option}
+use Rattle.std.specs.List.{filter_map, cons_option}
 use Rattle.std.specs.FinMap as finmap
-use Rattle.std.specs.FinMap.Entries.{below_all, is_sorted}
-use Rattle.std.specs.declared.cmp.Ordering.{Ordering}
-use Rattle.std.specs.declared.cmp.Ordering.TheVariants.{Less, Equal, Greater}
+use Rattle.std.specs.FinMap.Entries.{below_all}
 use Rattle.lsm_names.specs.declared.file_names.FileName.{FileName}
 use Rattle.lsm_names.specs.declared.file_names.FileName.TheVariants.{Log, Table, Manifest, Temp, Current}
-use Rattle.lsm_names.specs.FileNames.{spelled, IsFileName, is_file_number}
-use Rattle.lsm_names.specs.Paths.{is_path, is_component, is_component_byte, cut_last, put_before}
-use Rattle.lsm_names.proofs.PathLemmas.{joined_is_path, component_is_path, bytes_of_component}
-use Rattle.lsm_names.proofs.FileNameLemmas.{spelled_is_component, spelled_is_short}
-use Rattle.lsm_disk.specs.Names.{Node, Folder_node, File_node, path_cmp, inside}
-use Rattle.lsm_disk.specs.Listing.{kind_by, one_part, listed_name, with_entry, listed}
-use Rattle.lsm_disk.specs.declared.listing.Entry.{Entry}
-use Rattle.lsm_disk.proofs.Paths.{same_path, path_itself}
-use Rattle.lsm_disk.proofs.Moves.{under_is, inside_joined}
-use Rattle.lsm_folder.specs.Names.{name_of, name_cmp}
-use Rattle.lsm_folder.specs.Files.{Item, A_file, A_folder, Files, bytes_in, file_at}
-use Rattle.lsm_folder.specs.Reading.{LogText, log_of, live_log, said, logs_of}
-use Rattle.lsm_folder.proofs.NameLemmas.{name_again}
-use Rattle.lsm_folder.proofs.LiveLemmas.{same_entries, live_text, logs_among, equal_number, get_logs, entries_of_logs}
-use Rattle.std.proofs.lemmas.Option.{same_Some}
+use Rattle.lsm_folder.specs.Files.{Item, A_file, A_folder, Files, file_at}
+use Rattle.lsm_folder.specs.Logs.{LogText, log_of, live_log, said, logs_of}
+use Rattle.lsm_folder.proofs.LiveLemmas.{same_entries, live_text, logs_among, get_logs, entries_of_logs}
 use Rattle.lsm_rows.proofs.PairEntries.{both}
 
 -- ---- from one log on to the next

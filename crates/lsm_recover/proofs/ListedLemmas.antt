@@ -1,6 +1,6 @@
 -- The least number among entries, one entry after another.
-use Rattle.std.specs.Prelude.{◌≡◌, ◌≢◌, ℕ, ◌+◌, ◌<◌, ◌≤◌, Bool, true, false, nat_le, min, List, [], ◌∷◌, length, drop, get_or, Option, Some, None, IfSome}
-use Rattle.std.proofs.Common.{refl, sym, ap, subst, ◌∙◌, arith}
+use Rattle.std.specs.Prelude.{◌≡◌, ◌≢◌, ℕ, ◌+◌, ◌<◌, ◌≤◌, true, false, nat_le, min, List, [], ◌∷◌, ◌++◌, length, drop, get_or, Option, Some, None, IfSome}
+use Rattle.std.proofs.Common.{refl, sym, ap, subst, ◌∙◌, arith, append_assoc, append-nil}
 use Rattle.std.proofs.lemmas.Bool.Decides.{nat_tests}
 use Rattle.lsm_disk.specs.declared.listing.Entry.{Entry}
 use Rattle.std.proofs.lemmas.List.{length-append}
@@ -10,8 +10,9 @@ use Rattle.lsm_names.specs.FileNames.{spelled, IsFileName, is_file_number}
 use Rattle.lsm_names.proofs.FileNameLemmas.{spelled_is_short}
 use Rattle.lsm_folder.specs.Names.{name_of, current_text, manifest_in}
 use Rattle.lsm_folder.proofs.NameLemmas.{name_again, name_only}
-use Rattle.lsm_folder.proofs.PlainLemmas.{no_manifest}
-use Rattle.lsm_recover.specs.Listed.{log_in, lesser, next_log}
+use Rattle.lsm_folder.proofs.CurrentLemmas.{no_manifest}
+use Rattle.std.specs.List.{cons_option}
+use Rattle.lsm_recover.specs.Listed.{log_in, lesser, next_log, names_in}
 use Rattle.lsm_rows.proofs.Lists.{drop_here, drop_end}
 
 min_both : (a b c : ℕ) → min (min a b) c ≡ min a (min b c)
@@ -80,3 +81,25 @@ both_have P (Some a) (Some b) x y = one_has P a b x y
 -- what both have has the lesser
 pub lesser_has : (P : ℕ → Type 0) (o p next : Option ℕ) → IfSome o P → IfSome p P → next ≡ lesser o p → IfSome next P
 lesser_has P o p next has too is = subst (λ (x : Option ℕ). IfSome x P) (sym is) (both_have P o p has too)
+
+-- ---- the names of files
+
+one_name : (o : Option FileName) (names : List FileName) → cons_option o names ≡ cons_option o [] ++ names
+one_name None names = refl
+one_name (Some name) names = refl
+
+-- the names of the entries from a place on, behind those that were found
+abbrev pub names_with : List Entry → List FileName → ℕ → List FileName
+names_with entries names i = names ++ names_in (drop i entries)
+
+pub names_more : (entries : List Entry) (i : ℕ) (names next : List FileName) (entry : Entry) → names_with entries names i ≡ names_in entries → i < length entries → entry ≡ get_or entries i entry → next ≡ names ++ names_in (entry ∷ [])
+    → names_with entries next (i + 1) ≡ names_in entries
+names_more entries i names next entry before there is made =
+    ap (λ (l : List FileName). l ++ names_in (drop (i + 1) entries)) made
+    ∙ append_assoc names (names_in (entry ∷ [])) (names_in (drop (i + 1) entries))
+    ∙ ap (λ (l : List FileName). names ++ l) (sym (one_name (name_of entry.name) (names_in (drop (i + 1) entries))))
+    ∙ ap (λ (l : List Entry). names ++ names_in l) (sym (drop_here entries i entry there is))
+    ∙ before
+
+pub names_all : (entries : List Entry) (i : ℕ) (names : List FileName) → names_with entries names i ≡ names_in entries → length entries ≤ i → names ≡ names_in entries
+names_all entries i names before all = sym (append-nil names) ∙ ap (λ (l : List Entry). names ++ names_in l) (sym (drop_end entries i all)) ∙ before

@@ -1,27 +1,22 @@
 -- The least number of a log among the entries of a listing, by the names of the disk.
-use Rattle.std.specs.Prelude.{◌≡◌, ℕ, ◌+◌, ◌≤◌, Bool, true, false, cond, ◌&&◌, ◌==◌, nat_le, min, is_some, List, [], ◌∷◌, ◌++◌, length, T, Option, Some, None, IfSome}
+use Rattle.std.specs.Prelude.{◌≡◌, ℕ, ◌+◌, ◌≤◌, Bool, true, false, cond, nat_le, is_some, List, [], ◌∷◌, ◌++◌, length, Option, Some, None}
 use Rattle.std.proofs.Common.{refl, sym, ap, subst, ◌∙◌, arith}
 use Rattle.std.proofs.lemmas.Bool.Decides.{nat_tests}
-use Rattle.std.specs.Ordering.{eq_by_cmp, is_lt}
-use Rattle.std.specs.List.{list_all}
+use Rattle.std.specs.Ordering.{eq_by_cmp}
 use Rattle.std.specs.FinMap as finmap
-use Rattle.std.specs.FinMap.Entries.{below_all, is_sorted}
-use Rattle.lsm_names.specs.declared.file_names.FileName.{FileName}
-use Rattle.lsm_names.specs.declared.file_names.FileName.TheVariants.{Log, Table, Manifest, Temp, Current}
-use Rattle.lsm_names.specs.FileNames.{spelled, IsFileName, is_file_number}
-use Rattle.lsm_names.specs.Paths.{is_path, is_slash, is_component_byte, cut_last, put_before}
-use Rattle.lsm_names.proofs.PathLemmas.{joined_is_path, component_is_path, bytes_of_component, no_slash_byte, no_slash}
+use Rattle.lsm_names.specs.declared.file_names.FileName.TheVariants.{Log}
+use Rattle.lsm_names.specs.FileNames.{spelled, is_file_number}
+use Rattle.lsm_names.specs.Paths.{is_path}
+use Rattle.lsm_names.proofs.PathLemmas.{joined_is_path, component_is_path, bytes_of_component, no_slash}
 use Rattle.lsm_names.proofs.FileNameLemmas.{spelled_is_component, spelled_is_short}
-use Rattle.lsm_disk.specs.Names.{Node, Folder_node, File_node, path_cmp, inside, under}
+use Rattle.lsm_disk.specs.Names.{Node, File_node, path_cmp, inside}
 use Rattle.lsm_disk.specs.Listing.{kind_by, one_part, listed_name, with_entry, listed}
 use Rattle.lsm_disk.specs.declared.listing.Entry.{Entry}
-use Rattle.lsm_disk.proofs.Paths.{same_path, path_itself}
+use Rattle.lsm_disk.proofs.Paths.{same_path}
 use Rattle.lsm_disk.proofs.Moves.{inside_joined}
 use Rattle.lsm_folder.specs.Names.{name_of}
-use Rattle.lsm_folder.specs.Files.{name_in}
 use Rattle.lsm_folder.proofs.NameLemmas.{name_again}
-use Rattle.lsm_recover.specs.Listed.{log_in, log_number, number_by, lesser, next_log}
-use Rattle.std.proofs.lemmas.Bool.{and_parts}
+use Rattle.lsm_recover.specs.Listed.{log_in, log_number, lesser, next_log}
 
 -- a number that is there and at most this one
 abbrev pub IsAtMost : ℕ → Option ℕ → Type 0

@@ -1,8 +1,8 @@
 -- A view of a whole file, and how it was refused.
-use Rattle.std.specs.Prelude.{◌≡◌, ℕ, zero, suc, ◌≤◌, Bool, true, false, cond, nat_le, List, [], ◌∷◌, length, take, Option, Some, None, option_map, IfSome}
+use Rattle.std.specs.Prelude.{◌≡◌, ℕ, Bool, true, cond, nat_le, List, [], ◌∷◌, length, take, Option, Some, None, IfSome}
 use Rattle.std.proofs.Common.{refl, sym, ap, subst, ◌∙◌, arith}
 use Rattle.std.proofs.lemmas.Bool.Decides.{nat_tests}
-use Rattle.lsm_disk.specs.State.{State, Story, Seen, state_of, file_now, bytes_of}
+use Rattle.lsm_disk.specs.State.{State, Story, state_of, file_now, bytes_of}
 use Rattle.lsm_disk.specs.Viewed.{Viewed, opened}
 use Rattle.lsm_disk.specs.Refusals.{no_file, no_view, or_else, short_of}
 use Rattle.lsm_disk.specs.Answers.{RefusesBy}

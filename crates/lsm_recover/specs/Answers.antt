@@ -1,12 +1,12 @@
 -- How a reading of a disk answers what its folder reads as.
-use Rattle.std.specs.Prelude.{◌≡◌, ℕ, List, Result, Ok, Err, IfSome}
-use Rattle.lsm_disk.specs.State.{Story, Seen, state_of}
+use Rattle.std.specs.Prelude.{◌≡◌, ℕ, List, Result, Ok, Err}
+use Rattle.lsm_disk.specs.State.{Story, state_of}
 use Rattle.lsm_disk.specs.Images.{tree_now}
 use Rattle.lsm_folder.specs.declared.refusals.Refusal.{Refusal}
 use Rattle.lsm_folder.specs.declared.refusals.Refusal.TheVariants as refusal
 use Rattle.lsm_folder.specs.Files.{Files, Place, files_in, place_of}
 use Rattle.lsm_recover.specs.declared.errors.FolderError.{FolderError}
-use Rattle.lsm_recover.specs.declared.errors.FolderError.TheVariants.{DiskFault, NoFolder, NoCurrent, Missing, Changed, Damaged, Malformed, TornLog, Gap, NoMemory}
+use Rattle.lsm_recover.specs.declared.errors.FolderError.TheVariants.{DiskFault, NoFolder, NoCurrent, Missing, Changed, Short, Damaged, Malformed, TornLog, Gap, BadLevels, NoMemory}
 
 -- the refusal that an error is has this property. A fault and want of memory are no refusals, and a folder that changes
 -- while it is read isn't seen where the disk tells.
@@ -16,10 +16,12 @@ IsRefusal Has (NoFolder dir) = Has refusal.NoFolder
 IsRefusal Has (NoCurrent dir) = Has refusal.NoCurrent
 IsRefusal Has (Missing name) = Has (refusal.Missing name)
 IsRefusal Has (Changed call path) = ⊥
+IsRefusal Has (Short name kept found) = Has (refusal.Short name kept found)
 IsRefusal Has (Damaged name place kept found) = Has (refusal.Damaged name place kept found)
 IsRefusal Has (Malformed name place) = Has (refusal.Malformed name place)
 IsRefusal Has (TornLog name place) = Has (refusal.TornLog name place)
 IsRefusal Has (Gap name kept found) = Has (refusal.Gap name kept found)
+IsRefusal Has (BadLevels level left right) = Has (refusal.BadLevels level left right)
 IsRefusal Has NoMemory = Unit {0}
 
 -- what is read is refused so

@@ -10,10 +10,12 @@ use Rattle.lsm_disk.specs.declared.calls.DiskRefusal.{DiskRefusal}
 use Rattle.lsm_names.specs.declared.file_names.FileName.{FileName}
 use Rattle.lsm_frame.specs.declared.next.FrameError.{FrameError}
 use Rattle.lsm_frame.specs.declared.next.FrameError.TheVariants as frame
+use Rattle.lsm_table.specs.declared.faults.TableFault.{TableFault}
+use Rattle.lsm_table.specs.declared.faults.TableFault.TheVariants as table
 use Rattle.lsm_wal.specs.declared.why.WalWhy.{WalWhy}
 use Rattle.lsm_wal.specs.declared.why.WalWhy.TheVariants as why
 use Rattle.lsm_recover.specs.declared.errors.FolderError.{FolderError}
-use Rattle.lsm_recover.specs.declared.errors.FolderError.TheVariants.{DiskFault, NoFolder, NoCurrent, Missing, Changed, Damaged, Malformed, TornLog, Gap, NoMemory}
+use Rattle.lsm_recover.specs.declared.errors.FolderError.TheVariants.{DiskFault, NoFolder, NoCurrent, Missing, Changed, Short, Damaged, Malformed, TornLog, Gap, BadLevels, NoMemory}
 
 abbrev pub error_for : FolderError → Halt → DiskError → FolderError
 error_for missing at disk.Fault = DiskFault
@@ -36,10 +38,12 @@ HasRisenBy dir old new (NoFolder at) = (at ≡ dir) × Rose old.refusals new.ref
 HasRisenBy dir old new (NoCurrent at) = (at ≡ dir) × Rose old.refusals new.refusals
 HasRisenBy dir old new (Missing name) = Rose old.refusals new.refusals
 HasRisenBy dir old new (Changed call path) = Rose old.refusals new.refusals
+HasRisenBy dir old new (Short name kept found) = Unit {0}
 HasRisenBy dir old new (Damaged name place kept found) = Unit {0}
 HasRisenBy dir old new (Malformed name place) = Unit {0}
 HasRisenBy dir old new (TornLog name place) = Unit {0}
 HasRisenBy dir old new (Gap name kept found) = Unit {0}
+HasRisenBy dir old new (BadLevels level left right) = Unit {0}
 HasRisenBy dir old new NoMemory = Unit {0}
 
 pub record HasFolderCause {T : Type 0} (dir : List ℕ) (old new : Seen) (result : Result T FolderError) : Type 0 where
@@ -54,11 +58,28 @@ HasRisenIn old new (NoFolder at) = ⊥
 HasRisenIn old new (NoCurrent at) = ⊥
 HasRisenIn old new (Missing name) = ⊥
 HasRisenIn old new (Changed call path) = ⊥
+HasRisenIn old new (Short name kept found) = Unit {0}
 HasRisenIn old new (Damaged name place kept found) = Unit {0}
 HasRisenIn old new (Malformed name place) = Unit {0}
 HasRisenIn old new (TornLog name place) = Unit {0}
 HasRisenIn old new (Gap name kept found) = Unit {0}
+HasRisenIn old new (BadLevels level left right) = Unit {0}
 HasRisenIn old new NoMemory = Unit {0}
+
+-- an error of the bytes that were read, or want of memory: no count need have risen
+abbrev pub IsOfBytes : FolderError → Type 0
+IsOfBytes DiskFault = ⊥
+IsOfBytes (NoFolder at) = ⊥
+IsOfBytes (NoCurrent at) = ⊥
+IsOfBytes (Missing name) = ⊥
+IsOfBytes (Changed call path) = ⊥
+IsOfBytes (Short name kept found) = Unit {0}
+IsOfBytes (Damaged name place kept found) = Unit {0}
+IsOfBytes (Malformed name place) = Unit {0}
+IsOfBytes (TornLog name place) = Unit {0}
+IsOfBytes (Gap name kept found) = Unit {0}
+IsOfBytes (BadLevels level left right) = Unit {0}
+IsOfBytes NoMemory = Unit {0}
 
 -- a manifest's trouble as an error of its folder
 abbrev pub frame_error : FileName → FrameError → FolderError
@@ -75,3 +96,10 @@ wal_error name (why.Malformed place) = Malformed name place
 wal_error name why.NoMemory = NoMemory
 wal_error name (why.BadBatch place) = Malformed name place
 wal_error name (why.Gap kept found) = Gap name kept found
+
+-- a table's fault as an error of its folder
+abbrev pub table_error : FileName → TableFault → FolderError
+table_error name table.ReadFault = DiskFault
+table_error name (table.Damaged place kept found) = Damaged name place kept found
+table_error name (table.Malformed place) = Malformed name place
+table_error name table.NoMemory = NoMemory

@@ -1,5 +1,9 @@
 pub mod Answers
 pub mod Causes
-pub mod Found
+pub mod Gathered
+pub mod Head
 pub mod Listed
+pub mod Logs
 pub mod Shown
+pub mod Stated
+pub mod Tables

@@ -1,5 +1,5 @@
 -- The logs that a folder's listing tells.
-use Rattle.std.specs.Prelude.{◌≡◌, ℕ, ◌≤◌, Bool, true, false, ◌&&◌, nat_le, if◌then◌else◌, min, List, [], ◌∷◌, Option, Some, None}
+use Rattle.std.specs.Prelude.{◌≡◌, ℕ, true, nat_le, if◌then◌else◌, min, max, ◌+◌, List, [], ◌∷◌, Option, Some, None}
 use Rattle.lsm_names.specs.declared.file_names.FileName.{FileName}
 use Rattle.lsm_names.specs.declared.file_names.FileName.TheVariants.{Log, Table, Manifest, Temp, Current}
 use Rattle.lsm_disk.specs.Names.{is_folder}
@@ -8,7 +8,8 @@ use Rattle.lsm_disk.specs.Listing.{listing}
 use Rattle.lsm_disk.specs.declared.calls.Kind.{Kind}
 use Rattle.lsm_disk.specs.declared.calls.Kind.TheVariants.{File, Folder}
 use Rattle.lsm_disk.specs.declared.listing.Entry.{Entry}
-use Rattle.lsm_folder.specs.Names.{name_of}
+use Rattle.std.specs.List.{filter_map, fold}
+use Rattle.lsm_folder.specs.Names.{name_of, number_of}
 
 -- these are the entries of a folder of the disk
 pub record IsListing (dir : List ℕ) (story : Story) (entries : List Entry) : Type 0 where
@@ -42,3 +43,16 @@ lesser (Some number) (Some other) = Some (min number other)
 abbrev pub next_log : ℕ → List Entry → Option ℕ
 next_log least [] = None
 next_log least (entry ∷ entries) = lesser (log_in least entry) (next_log least entries)
+
+-- the names of a store's files among the entries, in their order, whatever stands there
+abbrev pub names_in : List Entry → List FileName
+names_in entries = filter_map (λ (entry : Entry). name_of entry.name) entries
+
+-- the number behind that of a name; 0 where there is none
+abbrev pub number_behind : Option FileName → ℕ
+number_behind None = 0
+number_behind (Some name) = number_of name + 1
+
+-- the next file number: it is behind the number of each file name among the entries, and no smaller than this one
+abbrev pub next_number : ℕ → List Entry → ℕ
+next_number next entries = fold (λ (n : ℕ) (entry : Entry). max n (number_behind (name_of entry.name))) next entries

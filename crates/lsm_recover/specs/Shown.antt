@@ -1,8 +1,14 @@
 -- How a folder that was read is answered.
-use Rattle.std.specs.Prelude.{◌≡◌, Result, Ok, Err}
+use Rattle.std.specs.Prelude.{◌≡◌, ℕ, List, Result, Ok, Err}
+use Rattle.lsm_disk.specs.Listing.{listing}
+use Rattle.lsm_disk.specs.State.{Story, state_of, names_now}
+use Rattle.lsm_version.specs.declared.edits.Edit.{Edit}
+use Rattle.lsm_folder.specs.Manifests.{tables_after, log_after, next_after}
 use Rattle.lsm_folder.specs.declared.refusals.Refusal.{Refusal}
 use Rattle.lsm_folder.specs.Reading.{Shown}
-use Rattle.lsm_recover.specs.Answers.{IsRefusedBy}
+use Rattle.lsm_recover.specs.Answers.{IsRefusedBy, place_now}
+use Rattle.lsm_recover.specs.Head.{edits_there}
+use Rattle.lsm_recover.specs.Listed.{names_in, next_number}
 use Rattle.lsm_recover.specs.declared.errors.FolderError.{FolderError}
 use Rattle.lsm_recover.specs.declared.folder.Found.{Found}
 
@@ -14,3 +20,13 @@ shown found = record { sequence = found.sequence; contents = found.contents }
 abbrev pub AnswersShown : Result Shown Refusal → Result Found FolderError → Type 0
 AnswersShown read (Ok found) = read ≡ Ok (shown found)
 AnswersShown read (Err error) = IsRefusedBy read error
+
+-- the version, the log number and the next number are what the folder's manifest says, but that the next number is behind
+-- those of the files too, and the names are those of the folder's listing
+pub record IsOfFolder (dir : List ℕ) (story : Story) (found : Found) : Type 0 where
+  pub edits : List Edit
+  pub said : edits_there (place_now dir story) ≡ Ok edits
+  pub version : found.version ≡ tables_after edits
+  pub log : found.log ≡ log_after edits
+  pub next : found.next ≡ next_number (next_after edits) (listing dir (names_now (state_of story)))
+  pub names : found.names ≡ names_in (listing dir (names_now (state_of story)))

@@ -5,9 +5,9 @@ ghost use Rattle.lsm_names.specs.declared.file_names.FileName.TheVariants.{Curre
 ghost use Rattle.lsm_disk.specs.Names.{is_folder};
 ghost use Rattle.lsm_frame.specs.Reader.{Tells, Stays};
 ghost use Rattle.lsm_folder.specs.declared.refusals.Refusal.TheVariants.{Malformed};
-ghost use Rattle.lsm_folder.specs.Names.{manifest_in};
-ghost use Rattle.lsm_folder.specs.Plain.{manifest_number};
-ghost use Rattle.lsm_folder.specs.Reading.{some_or, current_of};
+ghost use Rattle.lsm_folder.specs.Names.{manifest_in, manifest_number};
+ghost use Rattle.lsm_folder.specs.Reading.{current_of};
+ghost use Rattle.lsm_folder.specs.Steps.{some_or};
 ghost use Rattle.lsm_recover.specs.Answers.{AnswersAs, files_now};
 ghost use Rattle.lsm_recover.specs.Causes.{HasFolderCause, HasRisenIn};
 

@@ -6,8 +6,9 @@ use lsm_bytes::NoMemory as OutOfMemory;
 use lsm_disk::{DiskCall, DiskError, DiskRefusal};
 use lsm_names::{FileName, Path};
 
-/// Why a folder could not be read from a disk: the first trouble, where `CURRENT` is read first, then the manifest, and then
-/// the logs by their numbers, each from its start on. Places are counted in bytes from the file's start.
+/// Why a folder could not be read from a disk: the first trouble, where `CURRENT` is read first, then the manifest, then the
+/// version's tables by their numbers, and then the logs by theirs, each from its start on. Places and lengths are counted in
+/// bytes, places from the file's start.
 #[derive(Clone, Copy, Debug, PartialEq, Eq)]
 pub enum FolderError {
     /// The disk, or a view of it, failed.
@@ -29,7 +30,13 @@ pub enum FolderError {
         call: DiskCall,
         path: Path,
     },
-    /// The piece here is whole, and its checksum differs: the one that it keeps, and the one that its bytes have, both
+    /// A table has `found` bytes, and the version says that it has `kept`.
+    Short {
+        name: FileName,
+        kept: u64,
+        found: u64,
+    },
+    /// What begins here is whole, and its checksum differs: the one that it keeps, and the one that its bytes have, both
     /// masked.
     Damaged {
         name: FileName,
@@ -52,6 +59,12 @@ pub enum FolderError {
         name: FileName,
         kept: u64,
         found: u64,
+    },
+    /// An edit would leave two tables of a level from 1 on that overlap, `left` with the smaller number.
+    BadLevels {
+        level: u8,
+        left: u64,
+        right: u64,
     },
     /// Memory was wanted and not there.
     NoMemory,

@@ -11,7 +11,7 @@ ghost use Rattle.lsm_frame.specs.Reader.{Tells};
 ghost use Rattle.lsm_recover.specs.Answers.{IsRefusedBy, place_now};
 ghost use Rattle.lsm_recover.specs.Causes.{HasFolderCause};
 ghost use Rattle.lsm_recover.specs.Listed.{IsListing};
-ghost use Rattle.lsm_folder.specs.Reading.{reading};
+ghost use Rattle.lsm_recover.specs.Head.{edits_there};
 
 use crate::errors::{FolderError, error_by};
 use lsm_disk::{Disk, DiskCall, DiskError, DiskRefusal, Halt, Listing};
@@ -63,7 +63,7 @@ pub(crate) fn open_whole<D: Disk>(disk: &mut D, path: &Path) -> Result<D::View, 
 pub(crate) fn list_folder<D: Disk>(disk: &mut D, dir: &Path) -> Result<Listing, FolderError>
     ensures told { (D.seen disk.new).told ≡ (D.seen disk.old).told }
     ensures folder { IfOk result (λ entries. IfSome (D.seen disk.old).told (λ story. IsListing dir.now story entries)) }
-    ensures refused { IfErr result (λ e. IfSome (D.seen disk.old).told (λ story. IsRefusedBy (reading (place_now dir.now story)) e)) }
+    ensures refused { IfErr result (λ e. IfSome (D.seen disk.old).told (λ story. IsRefusedBy (edits_there (place_now dir.now story)) e)) }
     ensures cause { HasFolderCause dir.now (D.seen disk.old) (D.seen disk.new) result }
 {
     match disk.list(dir) {

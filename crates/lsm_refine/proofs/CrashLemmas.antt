@@ -18,8 +18,8 @@ use Rattle.lsm_disk.proofs.Paths.{same_path, path_itself}
 use Rattle.lsm_folder.specs.Files.{Place, files_in}
 use Rattle.lsm_folder.proofs.FileLemmas.{no_place, alike}
 use Rattle.lsm_folder.proofs.NameLemmas.{same_text, equal_texts}
-use Rattle.lsm_reading.specs.Needed.{Stands}
-use Rattle.lsm_reading.specs.Reading.{reading}
+use Rattle.lsm_folder.specs.Needed.{Stands}
+use Rattle.lsm_folder.specs.Reading.{reading}
 use Rattle.lsm_model.specs.declared.errors.StoreError.TheVariants as error
 use Rattle.lsm_model.specs.declared.states.State.{State}
 use Rattle.lsm_model.specs.declared.states.FolderRead.{FolderRead}

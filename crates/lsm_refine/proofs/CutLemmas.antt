@@ -1,7 +1,7 @@
 -- What a cut lists stands for the accepted batches, where the store is good behind it.
 use Rattle.std.specs.Prelude.{◌≡◌, ℕ, List, [], ◌∷◌, ◌++◌, length, Ok}
 use Rattle.std.proofs.Common.{sym, ap, subst}
-use Rattle.lsm_reading.specs.Needed.{Stands}
+use Rattle.lsm_folder.specs.Needed.{Stands}
 use Rattle.lsm_model.specs.declared.cuts.Cut.{Cut}
 use Rattle.lsm_model.specs.declared.cuts.FlushRule.{FlushRule}
 use Rattle.lsm_model.specs.declared.events.Event.TheVariants as event

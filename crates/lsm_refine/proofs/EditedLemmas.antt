@@ -18,7 +18,8 @@ use Rattle.lsm_disk.specs.Images.{bytes_at, tree_now}
 use Rattle.lsm_disk.specs.Kept.{OpSpares}
 use Rattle.lsm_disk.specs.Dest.{path_in}
 use Rattle.lsm_version.specs.declared.edits.Edit.{Edit}
-use Rattle.lsm_reading.specs.Parts.{AreEdits, AreLawful, manifest_text}
+use Rattle.lsm_folder.specs.Parts.{AreEdits, AreLawful}
+use Rattle.lsm_folder.specs.Manifests.{manifest_text}
 use Rattle.lsm_refine.specs.Kept.{KeptPin, Unfinished, Kept}
 use Rattle.lsm_refine.specs.Parts.{LogPart, Parts, AreRowsOf, first_logged, first_in_last}
 use Rattle.lsm_refine.specs.Sane.{IsWholeFile, IsAlone, IsCurrent, HasEdits, HasTables, HasLogs, MayStand, IsNeeded, AreKnown, IsOlder, RestoreBuilds, Sane, appended_to, in_hand, names_held}

@@ -14,9 +14,9 @@ use Rattle.lsm_disk.specs.declared.calls.Halt.{Halt}
 use Rattle.lsm_disk.proofs.Images.{reads_image}
 use Rattle.lsm_disk.proofs.Named.{name_image}
 use Rattle.lsm_folder.specs.Files.{Files, files_in}
-use Rattle.lsm_reading.specs.Needed.{Stands}
-use Rattle.lsm_reading.specs.Parts.{AreLawful, HasParts, rows_of_all}
-use Rattle.lsm_reading.proofs.StandingLemmas.{parts_stand}
+use Rattle.lsm_folder.specs.Needed.{Stands}
+use Rattle.lsm_folder.specs.Parts.{AreLawful, HasParts, rows_of_all}
+use Rattle.lsm_folder.proofs.PartsLemmas.{parts_stand}
 use Rattle.lsm_model.specs.declared.states.State.{State}
 use Rattle.lsm_model.specs.States.{written, none_or_one}
 use Rattle.lsm_refine.specs.Kept.{Shown}

@@ -35,7 +35,7 @@ use Rattle.lsm_wal.proofs.Images.{torn_image}
 use Rattle.lsm_wal.proofs.Once.{read_once}
 use Rattle.lsm_wal.proofs.Texts.{text_push, sequence_push, sequence_length}
 use Rattle.lsm_folder.specs.Files.{files_in}
-use Rattle.lsm_reading.specs.Needed.{Stands}
+use Rattle.lsm_folder.specs.Needed.{Stands}
 use Rattle.lsm_model.specs.declared.states.State.{State}
 use Rattle.lsm_model.specs.declared.states.Pin.{Pin}
 use Rattle.lsm_model.specs.Writes.{with_batch, doubting}

@@ -13,11 +13,10 @@ use Rattle.lsm_disk.specs.Images.{Tree, tree_now}
 use Rattle.lsm_disk.specs.declared.calls.Halt.{Halt}
 use Rattle.lsm_disk.proofs.Lawful.{get_named}
 use Rattle.lsm_folder.specs.Files.{Files, Stands_with, files_in, place_by, place_of}
-use Rattle.lsm_reading.specs.declared.refusals.Refusal.{Refusal}
-use Rattle.lsm_reading.specs.Needed.{IsFresh, Stands}
-use Rattle.lsm_reading.specs.Reading.{reading}
-use Rattle.lsm_reading.specs.Reading as plain
-use Rattle.lsm_reading.proofs.FreshLemmas.{fresh_is_none}
+use Rattle.lsm_folder.specs.declared.refusals.Refusal.{Refusal}
+use Rattle.lsm_folder.specs.Needed.{IsFresh, Stands}
+use Rattle.lsm_folder.specs.Reading.{Shown as Read, reading}
+use Rattle.lsm_folder.proofs.FreshLemmas.{fresh_is_none}
 use Rattle.lsm_model.specs.declared.states.State.{State}
 use Rattle.lsm_model.specs.declared.states.Pin.{Pin}
 use Rattle.lsm_model.specs.declared.states.FolderRead.{FolderRead}
@@ -43,14 +42,14 @@ use Rattle.lsm_names.proofs.FolderLemmas.{folder_has_bytes}
 
 -- ---- a folder stands for one thing
 
-read_once : (read : Result plain.Shown Refusal) (one two : plain.Shown) → read ≡ Ok one → read ≡ Ok two → one ≡ two
+read_once : (read : Result Read Refusal) (one two : Read) → read ≡ Ok one → read ≡ Ok two → one ≡ two
 read_once read one two first second = let same : Ok one ≡ Ok two = sym first ∙ second in cc
 
 pub stands_once : (files : Files) (one two : Contents) (m n : ℕ) → Stands files one m → Stands files two n → (one ≡ two) × (m ≡ n)
 stands_once files one two m n first second =
     let same = read_once (reading (Stands_with files)) (record { sequence = m; contents = one })
     (record { sequence = n; contents = two }) first.read second.read in
-    (ap (λ (shown : plain.Shown). shown.contents) same, ap (λ (shown : plain.Shown). shown.sequence) same)
+    (ap (λ (shown : Read). shown.contents) same, ap (λ (shown : Read). shown.sequence) same)
 
 -- and what stands isn't fresh
 pub not_fresh : {A : Type 0} (dir : List ℕ) (t : Tree) (contents : Contents) (sequence : ℕ) → 1 ≤ length dir

@@ -12,7 +12,7 @@ use Rattle.lsm_disk.specs.Goes.{Went}
 use Rattle.lsm_disk.proofs.Cuts.{take_none}
 use Rattle.lsm_disk.proofs.Runs.{went_wider}
 use Rattle.lsm_folder.specs.Files.{files_in}
-use Rattle.lsm_reading.specs.Needed.{Stands}
+use Rattle.lsm_folder.specs.Needed.{Stands}
 use Rattle.lsm_model.specs.declared.states.State.{State}
 use Rattle.lsm_model.specs.States.{written}
 use Rattle.lsm_refine.specs.Folders.{StandsFor, FoldersAre, AreAlikeOutside}

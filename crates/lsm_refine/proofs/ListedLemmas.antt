@@ -28,16 +28,16 @@ use Rattle.lsm_wal.proofs.Texts.{sequence_length}
 use Rattle.lsm_folder.specs.Files.{Item, A_file, Files, bytes_in, file_at}
 use Rattle.lsm_folder.specs.Names.{name_cmp, names_total, current_text}
 use Rattle.lsm_folder.proofs.FileLemmas.{name_itself}
-use Rattle.lsm_folder.proofs.LiveLemmas.{same_entries}
+use Rattle.lsm_folder.proofs.LiveLemmas.{same_entries, all_below}
 use Rattle.lsm_version.specs.declared.tables.Placed.{Placed}
 use Rattle.lsm_version.specs.Levels.{Tables}
-use Rattle.lsm_reading.specs.Manifests.{tables_after, log_after, last_after}
-use Rattle.lsm_reading.specs.Needed.{Stands}
-use Rattle.lsm_reading.specs.Parts.{HasParts, AreLogs, IsLog, all_of, rows_of_tables, rows_of_all}
-use Rattle.lsm_reading.specs.Parts as reading
-use Rattle.lsm_reading.proofs.AssembledLemmas.{all_below, found_first, found_later}
-use Rattle.lsm_reading.proofs.ManifestLemmas.{manifest_written}
-use Rattle.lsm_reading.proofs.StandingLemmas.{parts_stand}
+use Rattle.lsm_folder.specs.Manifests.{manifest_text, tables_after, log_after, last_after}
+use Rattle.lsm_folder.specs.Needed.{Stands}
+use Rattle.lsm_folder.specs.Parts.{HasParts, AreLogs, IsLog, all_of, rows_of_tables, rows_of_all}
+use Rattle.lsm_folder.specs.Parts as reading
+use Rattle.lsm_folder.proofs.AssembledLemmas.{found_first, found_later}
+use Rattle.lsm_folder.proofs.ManifestLemmas.{manifest_written}
+use Rattle.lsm_folder.proofs.PartsLemmas.{parts_stand}
 use Rattle.lsm_model.specs.declared.cuts.Cut.{Cut}
 use Rattle.lsm_model.specs.declared.cuts.CutFile.{CutFile}
 use Rattle.lsm_model.specs.declared.cuts.FlushRule.{FlushRule}
@@ -99,7 +99,7 @@ module _ (d : State) (dir : List ℕ) (kept : Kept) (parts : Parts) (sane : Sane
   logs = held_texts texts
 
   abbrev manifest_pin : PinnedFile
-  manifest_pin = record { name = Manifest kept.manifest; bytes = reading.manifest_text parts.edits }
+  manifest_pin = record { name = Manifest kept.manifest; bytes = manifest_text parts.edits }
 
   -- the tables as they are now, the logs that aren't empty, and the manifest
   abbrev files : List PinnedFile
@@ -160,7 +160,7 @@ module _ (d : State) (dir : List ℕ) (kept : Kept) (parts : Parts) (sane : Sane
 
   manifest_there : IsThere manifest_pin
   manifest_there = there_now manifest_pin sane.current.numbered
-      (whole_image d (path_in dir (Manifest kept.manifest)) (reading.manifest_text parts.edits) sane.edits.file (tree_now d)
+      (whole_image d (path_in dir (Manifest kept.manifest)) (manifest_text parts.edits) sane.edits.file (tree_now d)
       (reads_image d))
 
   pub files_there : PinFiles d dir files
@@ -207,13 +207,13 @@ module _ (d : State) (dir : List ℕ) (kept : Kept) (parts : Parts) (sane : Sane
       ∙ ap (λ (b : Bool). cond b (Some (A_file (current_text kept.manifest)))
       (finmap.find name_cmp Current (map entry_of files))) (name_itself Current))
 
-  manifest_at : file_at folder (Manifest kept.manifest) ≡ Some (reading.manifest_text parts.edits)
+  manifest_at : file_at folder (Manifest kept.manifest) ≡ Some (manifest_text parts.edits)
   manifest_at = ap bytes_in
       (found_in (Manifest kept.manifest) refl
       ∙ passed (Manifest kept.manifest) table_entries (log_entries ++ manifest_entry)
       (tables_pass d dir (Manifest kept.manifest) tables (λ number. refl))
       ∙ passed (Manifest kept.manifest) log_entries manifest_entry (logs_pass (Manifest kept.manifest) logs (λ number. refl))
-      ∙ ap (λ (b : Bool). cond b (Some (A_file (reading.manifest_text parts.edits))) None) (name_itself (Manifest kept.manifest)))
+      ∙ ap (λ (b : Bool). cond b (Some (A_file (manifest_text parts.edits))) None) (name_itself (Manifest kept.manifest)))
 
   log_at : (number : ℕ) → file_at folder (Log number) ≡ finmap.find nat_cmp number logs
   log_at number =
@@ -289,7 +289,7 @@ module _ (d : State) (dir : List ℕ) (kept : Kept) (parts : Parts) (sane : Sane
     manifest = kept.manifest;
     numbered = sane.current.numbered;
     current = current_at;
-    text = reading.manifest_text parts.edits;
+    text = manifest_text parts.edits;
     there = manifest_at;
     edits_are = manifest_written parts.edits sane.edits.are;
     tables = table_there;

@@ -12,9 +12,9 @@ use Rattle.lsm_rows.proofs.PairEntries.{both}
 use Rattle.lsm_wal.specs.Batches.{IsLogged, in_sequence, wal_text}
 use Rattle.lsm_wal.proofs.Fronts.{whole_reads}
 use Rattle.lsm_wal.proofs.Once.{read_once}
-use Rattle.lsm_folder.specs.Reading.{is_empty}
-use Rattle.lsm_reading.specs.Parts.{may_end, IsLog, AreLogs, all_of}
-use Rattle.lsm_reading.proofs.AssembledLemmas.{all_below}
+use Rattle.lsm_folder.specs.Logs.{is_empty}
+use Rattle.lsm_folder.specs.Parts.{may_end, IsLog, AreLogs, all_of}
+use Rattle.lsm_folder.proofs.LiveLemmas.{all_below}
 use Rattle.lsm_model.specs.declared.states.PinnedFile.{PinnedFile}
 use Rattle.lsm_model.specs.declared.cuts.CutFile.{CutFile}
 use Rattle.lsm_model.specs.Pins.{listed, held}

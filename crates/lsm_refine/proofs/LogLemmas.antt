@@ -17,7 +17,7 @@ use Rattle.lsm_disk.specs.State.{State}
 use Rattle.lsm_wal.specs.Batches.{IsLogged, in_sequence, wal_text}
 use Rattle.lsm_wal.proofs.Fronts.{whole_reads}
 use Rattle.lsm_folder.proofs.LiveLemmas.{equal_number}
-use Rattle.lsm_reading.specs.Parts.{may_end, IsLog, AreLogs}
+use Rattle.lsm_folder.specs.Parts.{may_end, IsLog, AreLogs}
 use Rattle.lsm_refine.specs.Parts.{LogPart, numbers_of, batches_in}
 use Rattle.lsm_refine.specs.Sane.{AreSynced}
 use Rattle.lsm_refine.specs.Fronts.{texts_from}

@@ -34,9 +34,9 @@ use Rattle.lsm_version.specs.declared.tables.Placed.{Placed}
 use Rattle.lsm_version.specs.Edits.{IsEdit, AreFields, InRange, Before, rank_of}
 use Rattle.lsm_version.specs.Levels.{Tables, overlaps_from}
 use Rattle.lsm_version.specs.Versions.{empty_version, applied, changed, refused_by, version_after, numbers_after}
-use Rattle.lsm_reading.specs.Manifests.{tables_or_none, tables_after, log_after, last_after}
-use Rattle.lsm_reading.specs.Needed.{sequences}
-use Rattle.lsm_reading.specs.Parts.{AreEdits, AreLawful, rows_of_tables}
+use Rattle.lsm_folder.specs.Manifests.{tables_or_none, tables_after, log_after, last_after}
+use Rattle.lsm_folder.specs.Needed.{sequences}
+use Rattle.lsm_folder.specs.Parts.{AreEdits, AreLawful, rows_of_tables}
 use Rattle.lsm_model.specs.declared.states.FolderRead.{FolderRead}
 use Rattle.lsm_model.specs.declared.states.Pin.{Pin}
 use Rattle.lsm_refine.specs.Kept.{Unfinished}
@@ -49,7 +49,7 @@ use Rattle.lsm_refine.specs.Listing.{table_listed, manifest_listed, files_listed
 use Rattle.lsm_refine.specs.Good.{Good}
 use Rattle.lsm_refine.proofs.CrashLemmas.{list_folders}
 use Rattle.lsm_refine.specs.New.{first_edit, first_manifest, new_names, new_kept, new_store, new_state, IsLeftover, IsThere, HasNewStore}
-use Rattle.lsm_reading.proofs.PlainLemmas.{no_entries}
+use Rattle.lsm_folder.proofs.FirstEditLemmas.{no_entries}
 
 -- ---- its one edit
 

@@ -21,7 +21,7 @@ use Rattle.lsm_disk.proofs.Images.{reads_image, all_push, created_image, after_n
 use Rattle.lsm_disk.proofs.Runs.{went_wider}
 use Rattle.lsm_wal.specs.Making.{MayHaveNew, IsMade}
 use Rattle.lsm_folder.specs.Files.{Files, files_in, item_of}
-use Rattle.lsm_reading.specs.Needed.{Stands}
+use Rattle.lsm_folder.specs.Needed.{Stands}
 use Rattle.lsm_model.specs.declared.states.State.{State}
 use Rattle.lsm_model.specs.declared.states.Pin.{Pin}
 use Rattle.lsm_model.specs.States.{written}

@@ -31,10 +31,10 @@ use Rattle.lsm_version.specs.declared.tables.Placed.{Placed}
 use Rattle.lsm_version.specs.declared.refusals.ApplyError.{ApplyError}
 use Rattle.lsm_version.specs.Levels.{Tables, clash, overlaps_from}
 use Rattle.lsm_version.specs.Versions.{empty_version, dropped, added, changed, leveled, refused_by, applied, applied_after, numbers_after, version_after}
-use Rattle.lsm_reading.specs.Manifests.{tables_or_none, tables_after, log_after, last_after}
-use Rattle.lsm_reading.specs.Needed.{sequences, IsAsListed}
-use Rattle.lsm_reading.specs.Parts.{AreEdits, AreLawful, IsManifest, rows_of_tables}
-use Rattle.lsm_reading.proofs.ManifestLemmas.{manifest_cut}
+use Rattle.lsm_folder.specs.Manifests.{tables_or_none, tables_after, log_after, last_after}
+use Rattle.lsm_folder.specs.Needed.{sequences, IsAsListed}
+use Rattle.lsm_folder.specs.Parts.{AreEdits, AreLawful, IsManifest, rows_of_tables}
+use Rattle.lsm_folder.proofs.ManifestLemmas.{manifest_cut}
 use Rattle.lsm_refine.specs.Witness.{tabled, older, newer, its_session, its_row, its_placed, its_edit, its_version, its_manifest, older_row, newer_row, next_table, next_info, next_placed, next_edit, next_version, next_parts, next_manifest, added_record}
 use Rattle.lsm_refine.proofs.NewLemmas.{no_contents}
 use Rattle.lsm_refine.proofs.WitnessLemmas.{session_is, edit_is, version_is, entries_are, only_table, is_listed}

@@ -21,9 +21,9 @@ use Rattle.lsm_disk.proofs.Cuts.{take_none, cut_front}
 use Rattle.lsm_disk.proofs.Images.{reads_image}
 use Rattle.lsm_folder.specs.Files.{item_of, files_in, place_of}
 use Rattle.lsm_folder.specs.Names.{current_text}
-use Rattle.lsm_reading.specs.Needed.{IsFresh, Stands}
-use Rattle.lsm_reading.specs.Parts.{IsManifest}
-use Rattle.lsm_reading.proofs.ManifestLemmas.{manifest_written}
+use Rattle.lsm_folder.specs.Needed.{IsFresh, Stands}
+use Rattle.lsm_folder.specs.Parts.{IsManifest}
+use Rattle.lsm_folder.proofs.ManifestLemmas.{manifest_written}
 use Rattle.lsm_model.specs.declared.states.State.{State}
 use Rattle.lsm_model.specs.declared.states.Pin.{Pin}
 use Rattle.lsm_model.specs.declared.states.FolderRead.{FolderRead}

@@ -26,11 +26,11 @@ use Rattle.lsm_version.specs.Versions.{numbers_after}
 use Rattle.lsm_wal.specs.Batches.{IsLogged}
 use Rattle.lsm_wal.proofs.Fronts.{whole_reads}
 use Rattle.lsm_table.specs.WholeTables.{IsTable}
-use Rattle.lsm_reading.specs.Manifests.{tables_after, last_after}
-use Rattle.lsm_reading.specs.Needed.{Stands}
-use Rattle.lsm_reading.specs.Parts.{IsManifest, HasParts, AreLogs, rows_of_tables, rows_of_all, all_of}
-use Rattle.lsm_reading.specs.Parts as reading
-use Rattle.lsm_reading.proofs.StandingLemmas.{parts_stand}
+use Rattle.lsm_folder.specs.Manifests.{tables_after, last_after}
+use Rattle.lsm_folder.specs.Needed.{Stands}
+use Rattle.lsm_folder.specs.Parts.{IsManifest, HasParts, AreLogs, rows_of_tables, rows_of_all, all_of}
+use Rattle.lsm_folder.specs.Parts as reading
+use Rattle.lsm_folder.proofs.PartsLemmas.{parts_stand}
 use Rattle.lsm_refine.specs.Fronts.{logs_with, last_text, texts_with, batches_with}
 use Rattle.lsm_refine.specs.Openings.{StandsAs}
 use Rattle.lsm_refine.specs.Witness.{tabled, older, newer, its_row, its_table, older_log, last_log, its_placed, its_disk, its_parts, its_kept, older_row, newer_row, next_table, next_placed, next_parts}

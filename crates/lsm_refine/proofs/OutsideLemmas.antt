@@ -23,7 +23,7 @@ use Rattle.lsm_disk.proofs.Now.{contents_other, names_after}
 use Rattle.lsm_folder.specs.Files.{Files, Item, A_file, item_of, item_at, files_in, place_by, place_of}
 use Rattle.lsm_folder.specs.Names.{names_total, names_exact}
 use Rattle.lsm_folder.proofs.FileLemmas.{files_are, file_names}
-use Rattle.lsm_reading.specs.Reading.{reading}
+use Rattle.lsm_folder.specs.Reading.{reading}
 use Rattle.lsm_model.specs.declared.states.State.{State}
 use Rattle.lsm_model.specs.declared.states.FolderRead.{FolderRead}
 use Rattle.lsm_model.specs.States.{folder_of}

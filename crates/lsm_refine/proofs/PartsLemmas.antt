@@ -26,10 +26,10 @@ use Rattle.lsm_folder.specs.Files.{Files, files_in, file_at}
 use Rattle.lsm_folder.proofs.LiveLemmas.{same_entries}
 use Rattle.lsm_version.specs.declared.tables.Placed.{Placed}
 use Rattle.lsm_version.specs.Levels.{Tables}
-use Rattle.lsm_reading.specs.Manifests.{tables_after, log_after}
-use Rattle.lsm_reading.specs.Parts.{HasParts, IsLog, AreLogs}
-use Rattle.lsm_reading.specs.Parts as reading
-use Rattle.lsm_reading.proofs.ManifestLemmas.{manifest_written}
+use Rattle.lsm_folder.specs.Manifests.{manifest_text, tables_after, log_after}
+use Rattle.lsm_folder.specs.Parts.{HasParts, IsLog, AreLogs}
+use Rattle.lsm_folder.specs.Parts as reading
+use Rattle.lsm_folder.proofs.ManifestLemmas.{manifest_written}
 use Rattle.lsm_refine.specs.Kept.{Kept}
 use Rattle.lsm_refine.specs.Parts.{LogPart, Parts, first_logged, first_in_last}
 use Rattle.lsm_refine.specs.Sane.{AreSynced, Sane}
@@ -194,7 +194,7 @@ module _ (d : State) (dir : List ℕ) (kept : Kept) (parts : Parts) (reads : IsR
       manifest = kept.manifest;
       numbered = reads.current.numbered;
       current = file_there dir t Current _ named tt (whole_image d (path_in dir Current) _ reads.current.file t i);
-      text = reading.manifest_text parts.edits;
+      text = manifest_text parts.edits;
       there = file_there dir t (Manifest kept.manifest) _ named reads.current.numbered
           (whole_image d (path_in dir (Manifest kept.manifest)) _ reads.edits.file t i);
       edits_are = manifest_written parts.edits reads.edits.are;

@@ -12,7 +12,7 @@ use Rattle.lsm_disk.proofs.Now.{names_after, contents_longer, contents_other, by
 use Rattle.lsm_disk.proofs.Paths.{get_spared, number}
 use Rattle.lsm_rows.specs.declared.operations.Op.{Op}
 use Rattle.lsm_rows.specs.Replay.{replayed, sequence_after}
-use Rattle.lsm_reading.specs.Needed.{Stands}
+use Rattle.lsm_folder.specs.Needed.{Stands}
 use Rattle.lsm_model.specs.declared.replies.Shown.{Shown}
 use Rattle.lsm_model.specs.declared.states.State as model
 use Rattle.lsm_model.specs.declared.states.Pin.{Pin}

@@ -33,7 +33,7 @@ use Rattle.lsm_rows.specs.declared.operations.Op.{Op}
 use Rattle.lsm_disk.specs.Names.{Folder_node, Names, stands}
 use Rattle.lsm_folder.specs.Files.{Place}
 use Rattle.lsm_folder.proofs.FileLemmas.{folder_place}
-use Rattle.lsm_reading.specs.Reading.{reading}
+use Rattle.lsm_folder.specs.Reading.{reading}
 use Rattle.lsm_refine.proofs.GoodLemmas.{good_now}
 
 get_step : (s t : State) (key : List ℕ) (r : Result (Option (List ℕ)) StoreError) → Gets s key r t → Step s (event.Get key) (reply.Get r) t

@@ -12,7 +12,7 @@ use Rattle.lsm_disk.specs.Images.{Tree, IsImage, tree_now}
 use Rattle.lsm_disk.specs.Goes.{Went}
 use Rattle.lsm_disk.proofs.Runs.{went_wider}
 use Rattle.lsm_folder.specs.Files.{files_in}
-use Rattle.lsm_reading.specs.Needed.{Stands}
+use Rattle.lsm_folder.specs.Needed.{Stands}
 use Rattle.lsm_model.specs.declared.states.State.{State}
 use Rattle.lsm_model.specs.declared.states.FolderRead.{FolderRead}
 use Rattle.lsm_model.specs.States.{shown_after, written, none_or_one}

@@ -17,9 +17,9 @@ use Rattle.lsm_disk.specs.State as disk
 use Rattle.lsm_disk.specs.State.{state_of}
 use Rattle.lsm_disk.specs.declared.calls.Halt.{Halt}
 use Rattle.lsm_version.specs.Levels.{Tables, IsLeveled}
-use Rattle.lsm_reading.specs.Manifests.{tables_after, last_after}
-use Rattle.lsm_reading.specs.Needed.{IsAsListed}
-use Rattle.lsm_reading.specs.Parts.{rows_of_tables}
+use Rattle.lsm_folder.specs.Manifests.{tables_after, last_after}
+use Rattle.lsm_folder.specs.Needed.{IsAsListed}
+use Rattle.lsm_folder.specs.Parts.{rows_of_tables}
 use Rattle.lsm_model.specs.declared.states.State.{State}
 use Rattle.lsm_model.specs.States.{contents_now, active_batches}
 use Rattle.lsm_refine.specs.Kept.{Shown}

@@ -21,9 +21,9 @@ use Rattle.lsm_wal.specs.Standing.{IsWal}
 use Rattle.lsm_folder.specs.Names.{current_text}
 use Rattle.lsm_version.specs.declared.edits.Edit.{Edit}
 use Rattle.lsm_version.specs.Levels.{Tables, IsLeveled}
-use Rattle.lsm_reading.specs.Manifests.{tables_after, log_after, last_after}
-use Rattle.lsm_reading.specs.Needed.{IsAsListed, sequences}
-use Rattle.lsm_reading.specs.Parts.{AreEdits, AreLawful, manifest_text, rows_of_tables}
+use Rattle.lsm_folder.specs.Manifests.{tables_after, log_after, last_after, manifest_text}
+use Rattle.lsm_folder.specs.Needed.{IsAsListed, sequences}
+use Rattle.lsm_folder.specs.Parts.{AreEdits, AreLawful, rows_of_tables}
 use Rattle.lsm_model.specs.Halting.{built_in}
 use Rattle.lsm_refine.specs.Kept.{Unfinished, Kept}
 use Rattle.lsm_refine.specs.Parts.{LogPart, Parts, AreRowsOf, batches_in, first_logged}

@@ -14,10 +14,11 @@ use Rattle.lsm_rows.specs.Replay.{Contents, replayed, sequence_after}
 use Rattle.lsm_rows.specs.Contents.{AllBefore, contents_of}
 use Rattle.lsm_rows.proofs.ReplayedRows.{contents_replayed}
 use Rattle.lsm_version.specs.declared.tables.Placed.{Placed}
-use Rattle.lsm_reading.specs.Manifests.{tables_after, last_after}
-use Rattle.lsm_reading.specs.Needed.{IsAsListed}
-use Rattle.lsm_reading.specs.Parts.{AreLawful, rows_of_tables, all_of, rows_of_all}
-use Rattle.lsm_reading.proofs.AssembledLemmas.{all_below, found_first, found_later}
+use Rattle.lsm_folder.specs.Manifests.{tables_after, last_after}
+use Rattle.lsm_folder.specs.Needed.{IsAsListed}
+use Rattle.lsm_folder.specs.Parts.{AreLawful, rows_of_tables, all_of, rows_of_all}
+use Rattle.lsm_folder.proofs.LiveLemmas.{all_below}
+use Rattle.lsm_folder.proofs.AssembledLemmas.{found_first, found_later}
 use Rattle.lsm_model.specs.declared.states.State.{State}
 use Rattle.lsm_refine.specs.Parts.{LogPart, Parts, batches_in, first_logged}
 use Rattle.lsm_refine.specs.Tied.{Tied}

@@ -18,7 +18,7 @@ use Rattle.lsm_disk.proofs.Runs.{went_weaker, went_wider, went_kept}
 use Rattle.lsm_disk.proofs.Paths.{path_cases}
 use Rattle.lsm_rows.specs.Replay.{replayed, sequence_after}
 use Rattle.lsm_folder.specs.Files.{Files}
-use Rattle.lsm_reading.specs.Needed.{Stands}
+use Rattle.lsm_folder.specs.Needed.{Stands}
 use Rattle.lsm_model.specs.declared.states.State.{State}
 use Rattle.lsm_model.specs.declared.states.FolderRead.{FolderRead}
 use Rattle.lsm_model.specs.States.{written, folder_of}

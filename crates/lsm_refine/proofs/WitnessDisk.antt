@@ -20,7 +20,7 @@ use Rattle.lsm_version.specs.Versions.{numbers_after}
 use Rattle.lsm_version.specs.declared.tables.Placed.{Placed}
 use Rattle.lsm_wal.specs.Batches.{in_sequence}
 use Rattle.lsm_wal.specs.Standing.{IsWal}
-use Rattle.lsm_reading.specs.Manifests.{last_after}
+use Rattle.lsm_folder.specs.Manifests.{last_after}
 use Rattle.lsm_refine.specs.Kept.{Unfinished}
 use Rattle.lsm_refine.specs.Sane.{IsWholeFile, IsAlone, IsCurrent, HasEdits, HasTable, HasTables, HasLogs, AreWritten, Sane}
 use Rattle.lsm_refine.specs.Witness.{older, newer, its_row, its_table, older_log, last_log, its_placed, its_manifest, its_files, its_disk, its_kept, its_parts}

@@ -23,12 +23,12 @@ use Rattle.lsm_folder.specs.Files.{Item, A_file, Files, bytes_in, file_at}
 use Rattle.lsm_folder.specs.Names.{name_cmp, names_total, current_text}
 use Rattle.lsm_version.specs.Versions.{numbers_after}
 use Rattle.lsm_version.specs.declared.tables.Placed.{Placed}
-use Rattle.lsm_reading.specs.Manifests.{last_after}
-use Rattle.lsm_reading.specs.Needed.{Stands}
-use Rattle.lsm_reading.specs.Parts.{HasParts, rows_of_all}
-use Rattle.lsm_reading.specs.Parts as reading
-use Rattle.lsm_reading.proofs.ManifestLemmas.{manifest_written}
-use Rattle.lsm_reading.proofs.StandingLemmas.{parts_stand}
+use Rattle.lsm_folder.specs.Manifests.{last_after}
+use Rattle.lsm_folder.specs.Needed.{Stands}
+use Rattle.lsm_folder.specs.Parts.{HasParts, rows_of_all}
+use Rattle.lsm_folder.specs.Parts as reading
+use Rattle.lsm_folder.proofs.ManifestLemmas.{manifest_written}
+use Rattle.lsm_folder.proofs.PartsLemmas.{parts_stand}
 use Rattle.lsm_model.specs.declared.states.FolderRead.{FolderRead}
 use Rattle.lsm_model.specs.declared.states.Pin.{Pin}
 use Rattle.lsm_model.specs.declared.states.PinnedFile.{PinnedFile}

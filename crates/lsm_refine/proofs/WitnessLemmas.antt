@@ -34,10 +34,10 @@ use Rattle.lsm_version.specs.Edits.{IsPlace, IsKey, InRange, Before, rank_of, Ar
 use Rattle.lsm_version.specs.declared.tables.Placed.{Placed}
 use Rattle.lsm_version.specs.Levels.{Tables, clash, overlaps_from}
 use Rattle.lsm_version.specs.Versions.{empty_version, dropped, added, changed, leveled, refused_by, applied, numbers_after, version_after}
-use Rattle.lsm_reading.specs.Manifests.{tables_or_none, tables_after, log_after, last_after}
-use Rattle.lsm_reading.specs.Needed.{sequences, IsAsListed}
-use Rattle.lsm_reading.specs.Parts.{AreEdits, AreLawful, rows_of_tables}
-use Rattle.lsm_reading.proofs.PlainLemmas.{no_entries}
+use Rattle.lsm_folder.specs.Manifests.{tables_or_none, tables_after, log_after, last_after}
+use Rattle.lsm_folder.specs.Needed.{sequences, IsAsListed}
+use Rattle.lsm_folder.specs.Parts.{AreEdits, AreLawful, rows_of_tables}
+use Rattle.lsm_folder.proofs.FirstEditLemmas.{no_entries}
 use Rattle.lsm_refine.specs.Witness.{one_put, tabled, its_session, its_row, its_table, its_info, its_placed, its_edit, its_version, its_parts}
 use Rattle.lsm_refine.proofs.NewLemmas.{no_contents}
 

@@ -16,7 +16,7 @@ use Rattle.lsm_disk.specs.Dest.{path_in}
 use Rattle.lsm_disk.specs.declared.calls.Halt.{Halt}
 use Rattle.lsm_disk.proofs.Kept.{kept_at}
 use Rattle.lsm_wal.proofs.Texts.{sequence_length}
-use Rattle.lsm_reading.specs.Manifests.{last_after}
+use Rattle.lsm_folder.specs.Manifests.{last_after}
 use Rattle.lsm_model.specs.declared.states.State.{State}
 use Rattle.lsm_refine.specs.Kept.{Unfinished, Kept, Shown}
 use Rattle.lsm_refine.specs.Parts.{Parts, batches_in, first_logged, first_in_last}

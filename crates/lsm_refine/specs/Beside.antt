@@ -15,7 +15,7 @@ use Rattle.lsm_disk.specs.Tree.{LeadsToFiles}
 use Rattle.lsm_disk.specs.Dest.{path_in}
 use Rattle.lsm_wal.specs.Batches.{Logged, in_sequence}
 use Rattle.lsm_wal.specs.Standing.{IsWal}
-use Rattle.lsm_reading.specs.Parts.{AreLawful}
+use Rattle.lsm_folder.specs.Parts.{AreLawful}
 use Rattle.lsm_model.specs.declared.states.State.{State}
 use Rattle.lsm_model.specs.declared.states.Pin.{Pin}
 use Rattle.lsm_model.specs.declared.states.PinnedFile.{PinnedFile}

@@ -7,8 +7,7 @@ use Rattle.lsm_disk.specs.State.{State}
 use Rattle.lsm_disk.specs.Kept.{OpSpares}
 use Rattle.lsm_disk.specs.Dest.{path_in}
 use Rattle.lsm_version.specs.declared.edits.Edit.{Edit}
-use Rattle.lsm_reading.specs.Manifests.{tables_after, log_after, last_after}
-use Rattle.lsm_reading.specs.Parts.{manifest_text}
+use Rattle.lsm_folder.specs.Manifests.{tables_after, log_after, last_after, manifest_text}
 use Rattle.lsm_refine.specs.Kept.{Kept}
 
 -- the version, the log number, the last sequence and the manifest's length are those of these edits

@@ -12,11 +12,10 @@ use Rattle.lsm_disk.specs.Kept.{SparesName}
 use Rattle.lsm_disk.specs.Images.{Tree, IsImage, tree_now}
 use Rattle.lsm_disk.specs.Dest.{path_in}
 use Rattle.lsm_folder.specs.Files.{files_in, item_at, place_of}
-use Rattle.lsm_folder.specs.Reading as plain
-use Rattle.lsm_reading.specs.declared.refusals.Refusal.{Refusal}
-use Rattle.lsm_reading.specs.declared.refusals.Refusal.TheVariants.{NoFolder, NoCurrent, Missing, Short, Malformed, Damaged, TornLog, Gap, BadLevels}
-use Rattle.lsm_reading.specs.Needed.{Stands}
-use Rattle.lsm_reading.specs.Reading.{reading}
+use Rattle.lsm_folder.specs.declared.refusals.Refusal.{Refusal}
+use Rattle.lsm_folder.specs.declared.refusals.Refusal.TheVariants.{NoFolder, NoCurrent, Missing, Short, Malformed, Damaged, TornLog, Gap, BadLevels}
+use Rattle.lsm_folder.specs.Needed.{Stands}
+use Rattle.lsm_folder.specs.Reading.{Shown as Read, reading}
 use Rattle.lsm_model.specs.declared.errors.StoreError.{StoreError}
 use Rattle.lsm_model.specs.declared.errors.StoreError.TheVariants as error
 use Rattle.lsm_model.specs.declared.replies.Shown.{Shown}
@@ -55,7 +54,7 @@ as_error dir (Gap name kept found) = error.Gap name kept found
 as_error dir (BadLevels level left right) = error.BadLevels level left right
 
 -- what was read, as a store shows it
-abbrev pub as_shown : List ℕ → Result plain.Shown Refusal → Result Shown StoreError
+abbrev pub as_shown : List ℕ → Result Read Refusal → Result Shown StoreError
 as_shown dir (Ok shown) = Ok (record { sequence = shown.sequence; contents = shown.contents })
 as_shown dir (Err refusal) = Err (as_error dir refusal)
 

@@ -8,8 +8,8 @@ use Rattle.lsm_rows.specs.Contents.{contents_of}
 use Rattle.lsm_disk.specs.Images.{Tree}
 use Rattle.lsm_wal.specs.Batches.{in_sequence, wal_text}
 use Rattle.lsm_folder.specs.Files.{files_in}
-use Rattle.lsm_reading.specs.Manifests.{last_after}
-use Rattle.lsm_reading.specs.Parts.{HasParts, all_of, rows_of_all}
+use Rattle.lsm_folder.specs.Manifests.{last_after}
+use Rattle.lsm_folder.specs.Parts.{HasParts, all_of, rows_of_all}
 use Rattle.lsm_model.specs.declared.states.State.{State}
 use Rattle.lsm_refine.specs.Parts.{LogPart, Parts, first_logged, first_in_last}
 

@@ -15,8 +15,8 @@ use Rattle.lsm_disk.specs.Dest.{Begun, path_in}
 use Rattle.lsm_disk.specs.declared.calls.Halt.{Halt}
 use Rattle.lsm_version.specs.declared.tables.Placed.{Placed}
 use Rattle.lsm_version.specs.Levels.{IsLeveled}
-use Rattle.lsm_reading.specs.Needed.{IsAsListed}
-use Rattle.lsm_reading.specs.Parts.{rows_of_tables}
+use Rattle.lsm_folder.specs.Needed.{IsAsListed}
+use Rattle.lsm_folder.specs.Parts.{rows_of_tables}
 use Rattle.lsm_model.specs.declared.states.State.{State}
 use Rattle.lsm_model.specs.States.{contents_now, last_of, active_batches}
 use Rattle.lsm_model.specs.Counts.{IsCounted}

@@ -5,6 +5,7 @@ pub mod Caused
 pub mod Codes
 pub mod Disks
 pub mod Edited
+pub mod Flushed
 pub mod Folders
 pub mod Fronts
 pub mod Good
@@ -16,6 +17,7 @@ pub mod ListedNow
 pub mod Listing
 pub mod Moments
 pub mod MovesApart
+pub mod Naming
 pub mod New
 pub mod Obsolete
 pub mod Openings
@@ -24,6 +26,8 @@ pub mod Pins
 pub mod Refused
 pub mod Sane
 pub mod Settled
+pub mod TableWork
 pub mod Tied
+pub mod WholeEdits
 pub mod Within
 pub mod Witness

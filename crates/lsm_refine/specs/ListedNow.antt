@@ -1,7 +1,7 @@
 -- The files that a cut lists, as they are on a running store's disk.
 use Rattle.std.specs.Prelude.{◌≡◌, ◌≤◌, List, map, length}
 use Rattle.lsm_disk.specs.State as disk
-use Rattle.lsm_reading.specs.Needed.{Stands}
+use Rattle.lsm_folder.specs.Needed.{Stands}
 use Rattle.lsm_model.specs.declared.states.State.{State}
 use Rattle.lsm_model.specs.declared.states.PinnedFile.{PinnedFile}
 use Rattle.lsm_model.specs.States.{shown_at}

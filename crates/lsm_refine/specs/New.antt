@@ -14,7 +14,7 @@ use Rattle.lsm_disk.specs.Building.{Part, IsKeptPart, names_of}
 use Rattle.lsm_folder.specs.Names.{current_text}
 use Rattle.lsm_version.specs.declared.edits.Edit.{Edit}
 use Rattle.lsm_version.specs.Versions.{empty_version}
-use Rattle.lsm_reading.specs.Parts.{manifest_text}
+use Rattle.lsm_folder.specs.Manifests.{manifest_text}
 use Rattle.lsm_model.specs.declared.states.State.{State}
 use Rattle.lsm_model.specs.declared.states.FolderRead.{FolderRead}
 use Rattle.lsm_model.specs.Plain.{empty_state}

@@ -10,7 +10,7 @@ use Rattle.lsm_disk.specs.State.{Story, state_of}
 use Rattle.lsm_disk.specs.Images.{Tree, IsImage, tree_now}
 use Rattle.lsm_disk.specs.Goes.{Went}
 use Rattle.lsm_folder.specs.Files.{Item, files_in, place_of}
-use Rattle.lsm_reading.specs.Needed.{IsFresh, Stands}
+use Rattle.lsm_folder.specs.Needed.{IsFresh, Stands}
 use Rattle.lsm_model.specs.declared.states.State.{State}
 use Rattle.lsm_model.specs.declared.states.FolderRead.{FolderRead}
 use Rattle.lsm_model.specs.Halting.{built_in}

@@ -8,7 +8,7 @@ use Rattle.lsm_rows.specs.Replay.{sequence_after}
 use Rattle.lsm_rows.specs.Rows.{rows_of}
 use Rattle.lsm_rows.specs.Contents.{newest}
 use Rattle.lsm_version.specs.declared.edits.Edit.{Edit}
-use Rattle.lsm_reading.specs.Manifests.{last_after}
+use Rattle.lsm_folder.specs.Manifests.{last_after}
 
 -- a live log: its number and its batches
 pub record LogPart : Type 0 where

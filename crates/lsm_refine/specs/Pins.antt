@@ -14,7 +14,7 @@ use Rattle.lsm_disk.specs.Images.{bytes_at, tree_now}
 use Rattle.lsm_disk.specs.Dest.{path_in}
 use Rattle.lsm_folder.specs.Files.{Item, A_file, Files}
 use Rattle.lsm_folder.specs.Names.{current_text}
-use Rattle.lsm_reading.specs.Needed.{Stands}
+use Rattle.lsm_folder.specs.Needed.{Stands}
 use Rattle.lsm_model.specs.declared.states.State.{State}
 use Rattle.lsm_model.specs.declared.states.Pin.{Pin}
 use Rattle.lsm_model.specs.declared.states.PinnedFile.{PinnedFile}

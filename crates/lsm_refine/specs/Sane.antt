@@ -23,8 +23,8 @@ use Rattle.lsm_folder.specs.Names.{current_text}
 use Rattle.lsm_table.specs.WholeTables.{IsTable}
 use Rattle.lsm_version.specs.declared.tables.Placed.{Placed}
 use Rattle.lsm_version.specs.declared.edits.Edit.{Edit}
-use Rattle.lsm_reading.specs.Manifests.{tables_after, log_after, last_after}
-use Rattle.lsm_reading.specs.Parts.{AreEdits, AreLawful, manifest_text}
+use Rattle.lsm_folder.specs.Manifests.{tables_after, log_after, last_after, manifest_text}
+use Rattle.lsm_folder.specs.Parts.{AreEdits, AreLawful}
 use Rattle.lsm_refine.specs.Kept.{KeptPin, Unfinished, Kept}
 use Rattle.lsm_refine.specs.Parts.{LogPart, Parts, AreRowsOf, numbers_of, batches_in, logs_of, first_logged, first_in_last}
 

@@ -4,8 +4,8 @@ use Rattle.std.specs.FinMap as finmap
 use Rattle.lsm_rows.specs.Replay.{replayed, sequence_after}
 use Rattle.lsm_rows.specs.Contents.{contents_of}
 use Rattle.lsm_version.specs.declared.tables.Placed.{Placed}
-use Rattle.lsm_reading.specs.Manifests.{tables_after, last_after}
-use Rattle.lsm_reading.specs.Parts.{rows_of_tables}
+use Rattle.lsm_folder.specs.Manifests.{tables_after, last_after}
+use Rattle.lsm_folder.specs.Parts.{rows_of_tables}
 use Rattle.lsm_model.specs.declared.states.State.{State}
 use Rattle.lsm_model.specs.declared.states.LiveTable.{LiveTable}
 use Rattle.lsm_refine.specs.Kept.{Kept}

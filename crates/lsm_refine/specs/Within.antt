@@ -7,7 +7,7 @@ use Rattle.lsm_disk.specs.State as disk
 use Rattle.lsm_disk.specs.State.{FileState, names_now}
 use Rattle.lsm_disk.specs.Images.{tree_now}
 use Rattle.lsm_disk.specs.Kept.{IsFileNow, OpSpares}
-use Rattle.lsm_reading.specs.Parts.{AreLawful}
+use Rattle.lsm_folder.specs.Parts.{AreLawful}
 use Rattle.lsm_model.specs.declared.states.State.{State}
 use Rattle.lsm_model.specs.declared.states.FolderRead.{FolderRead}
 use Rattle.lsm_model.specs.States.{folder_of}

@@ -21,7 +21,7 @@ use Rattle.lsm_version.specs.declared.tables.TableInfo.{TableInfo}
 use Rattle.lsm_version.specs.declared.tables.Placed.{Placed}
 use Rattle.lsm_version.specs.Levels.{Tables}
 use Rattle.lsm_version.specs.Versions.{empty_version}
-use Rattle.lsm_reading.specs.Parts.{manifest_text}
+use Rattle.lsm_folder.specs.Manifests.{manifest_text}
 use Rattle.lsm_model.specs.declared.states.State.{State}
 use Rattle.lsm_model.specs.declared.states.PinnedFile.{PinnedFile}
 use Rattle.lsm_model.specs.declared.states.FolderRead.{FolderRead}

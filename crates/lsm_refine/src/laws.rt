@@ -14,7 +14,7 @@ ghost use Rattle.lsm_disk.specs.State as disk;
 ghost use Rattle.lsm_disk.specs.declared.calls.Halt.{Halt};
 ghost use Rattle.lsm_disk.specs.Images.{Tree, IsImage, tree_now};
 ghost use Rattle.lsm_folder.specs.Files.{files_in};
-ghost use Rattle.lsm_reading.specs.Parts.{HasParts, AreLawful};
+ghost use Rattle.lsm_folder.specs.Parts.{HasParts, AreLawful};
 ghost use Rattle.lsm_model.specs.declared.cuts.Cut.{Cut};
 ghost use Rattle.lsm_model.specs.declared.cuts.FlushRule.{FlushRule};
 ghost use Rattle.lsm_model.specs.declared.events.Event.{Event};

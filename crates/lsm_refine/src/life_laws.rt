@@ -9,7 +9,7 @@ ghost use Rattle.lsm_disk.specs.State.{Story, state_of};
 ghost use Rattle.lsm_disk.specs.Images.{Tree, IsImage, tree_now};
 ghost use Rattle.lsm_disk.specs.Goes.{Went};
 ghost use Rattle.lsm_folder.specs.Files.{files_in};
-ghost use Rattle.lsm_reading.specs.Needed.{Stands};
+ghost use Rattle.lsm_folder.specs.Needed.{Stands};
 ghost use Rattle.lsm_model.specs.declared.states.FolderRead.{FolderRead};
 ghost use Rattle.lsm_model.specs.declared.states.State.{State};
 ghost use Rattle.lsm_model.specs.Steps.{Made};

@@ -67,6 +67,13 @@ impl Version {
         self.tables.get(&number)
     }
 
+    /// The tables with their levels, in the order of their numbers.
+    pub fn tables(&self) -> &BTreeMap<u64, Placed>
+        ensures { finite.from_entries result.now.entries ≡ self.now }
+    {
+        &self.tables
+    }
+
     /// The places of a level's tables, by their numbers.
     pub fn level_places(&self, alloc: Global, level: u8) -> Result<Inputs, lsm_bytes::NoMemory>
         ensures { IfOk result (λ places. places ≡ level_places self.now level) }

@@ -65,7 +65,12 @@ module _ (path : List ℕ) (story : Story) where
       module _ {o3 : Option Story} where
         pub after_names : {T : Type 0} (value : T) → Makes o1 (created path) o2 → Makes o2 names_synced o3 → Went story o3 (Making path) P (IsMade (state_of story) path (Ok value))
         after_names value makes then = went_weaker Synced_with (IsMade (state_of story) path (Ok value))
-            (λ s is. empty_wal s path (length (state_of story).files) (subst (λ x. IsKeptFile x path (length (state_of story).files) new_file) (sym is) (new_kept (state_of story) path)))
+            (λ s is. (
+              empty_wal s path (length (state_of story).files)
+                  (subst (λ x. IsKeptFile x path (length (state_of story).files) new_file) (sym is)
+                  (new_kept (state_of story) path)),
+              is,
+            ))
             (went_ok With Synced_with names_synced then (λ s i. names_making path s) (λ s i. ap (λ x. after x (names_synced x)) i) shows_synced (after_create makes))
 
         pub after_refused_names : (T : Type 0) (r : DiskRefusal) (e : DiskError) → Makes o1 (created path) o2 → LeftBy (o3 ≡ o2) (Allowed never o2 × Makes o2 names_synced o3) e → Went story o3 (Making path) P (IsMade {T = T} (state_of story) path (Err r))

@@ -18,7 +18,8 @@ with_new path old = after old (Created path)
 abbrev pub with_made : List ℕ → State → State
 with_made path old = after (with_new path old) (names_synced (with_new path old))
 
--- What a making leaves. Ok: an empty log that outlives each crash. A refusal: the disk as it was, or with the new file.
+-- What a making leaves. Ok: an empty log that outlives each crash, on the disk with the new file. A refusal: the disk as it
+-- was, or with the new file.
 abbrev pub IsMade : {T : Type 0} → State → List ℕ → Result T DiskRefusal → State → Type 0
-IsMade old path (Ok value) s = IsWal s path [] 0
+IsMade old path (Ok value) s = IsWal s path [] 0 × (s ≡ with_made path old)
 IsMade old path (Err r) s = (s ≡ old) ⊎ (s ≡ with_new path old) ⊎ (s ≡ with_made path old)

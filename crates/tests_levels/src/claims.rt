@@ -1,10 +1,10 @@
 //! What a test claims, and a case that stops before it can tell.
 use lsm_bytes::NoMemory;
-use lsm_version::ApplyError;
+use lsm_version::{ApplyError, EditError};
 use std::process::Abort;
 
 /// A call refused that was to go well.
-#[derive(Clone, Copy, Debug, PartialEq, Eq)]
+#[derive(Clone, Copy)]
 pub struct Stopped;
 
 /// A claim of a test. What it claims is no fact for the proof of the test.
@@ -14,6 +14,12 @@ pub fn sure(rt: &impl Abort, holds: Result<bool, Stopped>) {
 
 impl From<NoMemory> for Stopped {
     fn from(_: NoMemory) -> Self {
+        Stopped
+    }
+}
+
+impl From<EditError> for Stopped {
+    fn from(_: EditError) -> Self {
         Stopped
     }
 }

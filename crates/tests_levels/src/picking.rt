@@ -1,71 +1,9 @@
 //! What a compaction takes by the shape of the levels, against worked examples.
 use crate::claims::{Stopped, sure};
-use lsm_bytes::Bytes;
-use lsm_names::Session;
+use crate::shapes::{Short, version_of};
 use lsm_pick::pick;
-use lsm_rows::{InternalKey, Kind};
-use lsm_version::{Add, Adds, Choice, Drops, Edit, Place, TableInfo, Version};
+use lsm_version::{Choice, Place, Version};
 use std::alloc::Global;
-
-// A table: its level, its number, the only letters of its least and its greatest user key, and its size.
-type Short = (u8, u64, u8, u8, u64);
-
-// The internal key of a put of a key of one letter.
-fn letter(alloc: Global, letter: u8) -> Result<Bytes, Stopped> {
-    let put = InternalKey::new(alloc, &[letter], 1, Kind::Put)?;
-    Ok(Bytes::from_slice(alloc, put.as_slice())?)
-}
-
-// The session of all tables in these tests.
-fn session() -> Result<Session, Stopped> {
-    match Session::new(*b"0123456789ABCDEFGHIJ") {
-        Some(session) => Ok(session),
-        None => Err(Stopped),
-    }
-}
-
-fn table(alloc: Global, short: Short) -> Result<TableInfo, Stopped> {
-    let (_, number, first, last, size) = short;
-    let session = session()?;
-    let smallest = letter(alloc, first)?;
-    let largest = letter(alloc, last)?;
-    Ok(TableInfo {
-        number,
-        session,
-        size,
-        smallest,
-        largest,
-    })
-}
-
-fn nothing(alloc: Global) -> Edit {
-    Edit {
-        log: None,
-        next: None,
-        last: None,
-        adds: Adds::new(alloc),
-        drops: Drops::new(alloc),
-    }
-}
-
-fn add(alloc: Global, edit: &mut Edit, short: Short) -> Result<(), Stopped> {
-    let table = table(alloc, short)?;
-    let level = short.0;
-    Ok(edit.adds.push(Add { level, table })?)
-}
-
-fn applied(alloc: Global, edit: &Edit) -> Result<Version, Stopped> {
-    Ok(Version::empty(alloc).apply(alloc, edit)?)
-}
-
-// The version with these tables.
-fn version_of(alloc: Global, tables: &[Short]) -> Result<Version, Stopped> {
-    let mut edit = nothing(alloc);
-    for table in tables {
-        add(alloc, &mut edit, *table)?;
-    }
-    applied(alloc, &edit)
-}
 
 fn picked(alloc: Global, version: &Version) -> Result<Option<Choice>, Stopped> {
     Ok(pick(alloc, version)?)

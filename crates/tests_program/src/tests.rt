@@ -1,5 +1,6 @@
 //! What the program prints for scripts, and what it leaves.
 
+use crate::documents::EXAMPLES;
 use crate::probe::{
     failing_disk, has_printed, holds, is_free, log_after, one_word, run_new, run_over, status_of,
     two_words, with_script,
@@ -205,6 +206,11 @@ fn scripts_print_their_answers(rt: HostRuntime) {
     sure(&rt, all_print(&rt, rt.alloc(), BATCHES));
     sure(&rt, all_print(&rt, rt.alloc(), BAD_LINES));
     sure(&rt, all_print(&rt, rt.alloc(), BACKUPS));
+}
+
+#[test]
+fn the_documents_examples_print_so(rt: HostRuntime) {
+    sure(&rt, all_print(&rt, rt.alloc(), EXAMPLES));
 }
 
 const LARGE_KEY: &[u8] = b"refused BatchTooLarge Key 65536 65535\nnone\n";

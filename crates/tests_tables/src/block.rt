@@ -2,15 +2,15 @@
 ghost use Rattle.std.specs.Prelude.{◌≡◌, ◌≤◌, ◌-◌, length, take};
 
 use crate::claims::{Stopped, sure};
-use crate::keys::key;
+use crate::rows::key;
 use crate::views::ONE_BLOCK;
 use lsm_block::{Block, BlockBuilder, BlockError};
 use lsm_bytes::{Bytes, NoMemory};
 use lsm_rows::{InternalKey, Kind};
 use std::alloc::Global;
 
-// A block of 40 entries whose user keys are of the letters a and b, so that they share much. It has restarts at 0, at
-// 211 and at 422.
+// A block of 40 entries whose user keys are of the letters a and b, so that they share much. It has
+// restarts at 0, at 211 and at 422.
 const FORTY: &[u8] =
     b"\0\x08\0\0p\x11\x01\0\0\0\0\0\x09\0a\0\x02\0\0\0\0\0\0\x01\x09\x03a\x01\x03\0\0\0\0\
         \0\0yxz\x02\x09\0a\0\xc0E\x04\0\0\0\0\x03\x09\x02a\x010W\x05\0\0\0\0zx\x03\x0a\0ba\0\
@@ -51,12 +51,14 @@ fn rebuilt(alloc: Global, block: &Block) -> Result<BlockBuilder, NoMemory> {
     Ok(builder)
 }
 
-fn finished(builder: BlockBuilder) -> Result<Bytes, NoMemory> {
-    builder.finish()
+// Whether a builder ends with this text.
+fn ends_in(builder: BlockBuilder, text: &[u8]) -> Result<bool, Stopped> {
+    Ok(builder.finish()?.as_slice() == text)
 }
 
-fn contents(builder: &BlockBuilder) -> Result<Bytes, NoMemory> {
-    builder.contents()
+// Whether a builder has this text so far.
+fn has_contents(builder: &BlockBuilder, text: &[u8]) -> Result<bool, Stopped> {
+    Ok(builder.contents()?.as_slice() == text)
 }
 
 fn len(builder: &BlockBuilder) -> usize {
@@ -81,29 +83,49 @@ fn one_row(alloc: Global) -> Result<BlockBuilder, Stopped> {
     Ok(builder)
 }
 
+fn is_told(alloc: Global, builder: &BlockBuilder) -> bool {
+    BlockBuilder::new(alloc).is_empty()
+        && !builder.is_empty()
+        && len(builder) == 21
+        && ends_with(builder, b"a\x01\x01\0\0\0\0\0\0")
+}
+
 fn is_of_21_bytes(alloc: Global) -> Result<bool, Stopped> {
     let builder = one_row(alloc)?;
-    let is_begun = BlockBuilder::new(alloc).is_empty() && !builder.is_empty();
-    let is_told = len(&builder) == 21 && ends_with(&builder, b"a\x01\x01\0\0\0\0\0\0");
-    Ok(is_begun && is_told && finished(builder)?.as_slice() == ONE_BLOCK.as_slice())
+    let is_told = is_told(alloc, &builder);
+    Ok(ends_in(builder, ONE_BLOCK)? && is_told)
+}
+
+fn is_written(alloc: Global, block: &Block, text: &[u8]) -> Result<bool, Stopped> {
+    ends_in(rebuilt(alloc, block)?, text)
 }
 
 fn is_read_and_written(alloc: Global, text: &[u8], count: usize) -> Result<bool, Stopped> {
     let block = parsed(alloc, text)?;
-    let again = finished(rebuilt(alloc, &block)?)?;
-    Ok(block.entries().len() == count && again.as_slice() == text)
+    let is_counted = block.entries().len() == count;
+    Ok(is_written(alloc, &block, text)? && is_counted)
 }
 
 fn others_are_read_and_written(alloc: Global) -> Result<bool, Stopped> {
     Ok(is_read_and_written(alloc, ONE_BLOCK, 1)? && is_read_and_written(alloc, FORTY, 40)?)
 }
 
+// The entries of a block with this text, in a builder.
+fn begun(alloc: Global, text: &[u8]) -> Result<BlockBuilder, Stopped> {
+    let block = parsed(alloc, text)?;
+    Ok(rebuilt(alloc, &block)?)
+}
+
+// Whether two rows are there, and the first alone when the second is taken back.
+fn goes_back(builder: &mut BlockBuilder) -> Result<bool, Stopped> {
+    let both = has_contents(builder, TWO)?;
+    take_back(builder);
+    Ok(both && has_contents(builder, ONE_BLOCK)? && len(builder) == 21)
+}
+
 fn is_taken_back(alloc: Global) -> Result<bool, Stopped> {
-    let mut builder = rebuilt(alloc, &parsed(alloc, TWO)?)?;
-    let both = contents(&builder)?;
-    take_back(&mut builder);
-    let one = contents(&builder)?;
-    Ok(both.as_slice() == TWO && one.as_slice() == ONE_BLOCK.as_slice() && len(&builder) == 21)
+    let mut builder = begun(alloc, TWO)?;
+    goes_back(&mut builder)
 }
 
 // The greatest sequence.
@@ -144,8 +166,7 @@ fn sought_user<'a>(block: &'a Block, user: &[u8]) -> Option<&'a [u8]> {
     }
 }
 
-// Whether the key has the entry at this place, and its user key the one that its greatest sequence has.
-fn is_found(
+fn is_at(
     alloc: Global,
     block: &Block,
     user: &[u8],
@@ -153,14 +174,18 @@ fn is_found(
     place: usize,
 ) -> Result<bool, Stopped> {
     let row = key(alloc, user, sequence, Kind::Put)?;
-    let is_there = sought(block, &row) == key_at(block, place);
+    Ok(sought(block, &row) == key_at(block, place))
+}
+
+// Whether a user key has the entry that its greatest sequence has.
+fn is_newest(alloc: Global, block: &Block, user: &[u8]) -> Result<bool, Stopped> {
     let newest = key(alloc, user, LAST, Kind::Put)?;
-    Ok(is_there && sought_user(block, user) == sought(block, &newest))
+    Ok(sought_user(block, user) == sought(block, &newest))
 }
 
 fn are_found(alloc: Global, block: &Block) -> Result<bool, Stopped> {
     for (user, sequence, place) in SOUGHT {
-        if !is_found(alloc, block, user, *sequence, *place)? {
+        if !is_at(alloc, block, user, *sequence, *place)? || !is_newest(alloc, block, user)? {
             return Ok(false);
         }
     }

@@ -2,9 +2,9 @@
 ghost use Rattle.std.specs.Prelude.{◌≤◌};
 
 use crate::block::parsed;
-use crate::claims::{Stopped, sure};
+use crate::claims::{Stopped, holds, sure};
 use crate::table::DAMAGED;
-use crate::views::{ONE_BLOCK, TextView, changed, opened, reads_of};
+use crate::views::{ONE_BLOCK, TextView, reads_of, table};
 use lsm_block::Block;
 use lsm_cache::{BlockCache, cached_get};
 use lsm_rows::Row;
@@ -87,42 +87,39 @@ const LATER: &[Kept] = &[
 
 const OVERWRITTEN: &[Kept] = &[(2, 0, Some(b'z')), (1, 0, Some(b'w'))];
 
-// A cache with two blocks, of which the first was used last.
-fn two_blocks(alloc: Global) -> Result<BlockCache, Stopped> {
-    let mut cache = cache(alloc, 2)?;
-    put_value(alloc, &mut cache, 1, 0, b'x')?;
-    put_value(alloc, &mut cache, 1, 26, b'y')?;
-    if value_at(&mut cache, 1, 0) != Some(b'x') {
-        return Err(Stopped);
-    }
-    Ok(cache)
+// Puts two blocks and uses the first of them, then a third, and then another first one.
+fn unused_goes(alloc: Global, cache: &mut BlockCache) -> Result<bool, Stopped> {
+    put_value(alloc, cache, 1, 0, b'x')?;
+    put_value(alloc, cache, 1, 26, b'y')?;
+    let is_first = value_at(cache, 1, 0) == Some(b'x');
+    put_value(alloc, cache, 2, 0, b'z')?;
+    let is_kept = are_kept(cache, LATER);
+    put_value(alloc, cache, 1, 0, b'w')?;
+    Ok(is_first && is_kept && are_kept(cache, OVERWRITTEN))
 }
 
 fn the_unused_one_goes(alloc: Global) -> Result<bool, Stopped> {
-    let mut cache = two_blocks(alloc)?;
-    put_value(alloc, &mut cache, 2, 0, b'z')?;
-    let is_kept = are_kept(&mut cache, LATER);
-    put_value(alloc, &mut cache, 1, 0, b'w')?;
-    Ok(is_kept && are_kept(&mut cache, OVERWRITTEN))
+    let mut cache = cache(alloc, 2)?;
+    unused_goes(alloc, &mut cache)
 }
 
 const FORGOTTEN: &[Kept] = &[(1, 0, None), (1, 26, None), (2, 0, Some(b'y'))];
 
-// A cache with two blocks of the table 1 and one of the table 2.
-fn three_blocks(alloc: Global) -> Result<BlockCache, Stopped> {
-    let mut cache = cache(alloc, 4)?;
-    put_value(alloc, &mut cache, 1, 0, b'x')?;
-    put_value(alloc, &mut cache, 2, 0, b'y')?;
-    put_value(alloc, &mut cache, 1, 26, b'z')?;
-    Ok(cache)
+// Puts two blocks of the table 1 and one of the table 2, and forgets the table 3, and then the
+// table 1.
+fn first_is_forgotten(alloc: Global, cache: &mut BlockCache) -> Result<bool, Stopped> {
+    put_value(alloc, cache, 1, 0, b'x')?;
+    put_value(alloc, cache, 2, 0, b'y')?;
+    put_value(alloc, cache, 1, 26, b'z')?;
+    forget(cache, 3);
+    let is_kept = value_at(cache, 1, 0) == Some(b'x');
+    forget(cache, 1);
+    Ok(is_kept && are_kept(cache, FORGOTTEN))
 }
 
 fn one_is_forgotten(alloc: Global) -> Result<bool, Stopped> {
-    let mut cache = three_blocks(alloc)?;
-    forget(&mut cache, 3);
-    let is_kept = value_at(&mut cache, 1, 0) == Some(b'x');
-    forget(&mut cache, 1);
-    Ok(is_kept && are_kept(&mut cache, FORGOTTEN))
+    let mut cache = cache(alloc, 4)?;
+    first_is_forgotten(alloc, &mut cache)
 }
 
 // Where the table of one row with the number 5 and the value `2` has other bytes.
@@ -136,10 +133,6 @@ const OTHER_KEY: &[(usize, u8)] = &[(3, b'b')];
 
 // How many reads opening a table takes.
 const OPENING: u64 = 3;
-
-fn table(alloc: Global, changes: &[(usize, u8)]) -> Result<Table<TextView>, Stopped> {
-    opened(alloc, changed(alloc, 130, changes)?)
-}
 
 fn get(
     alloc: Global,
@@ -191,23 +184,41 @@ fn are_got(
     Ok(true)
 }
 
-fn four_gets_read_once(alloc: Global) -> Result<bool, Stopped> {
+// Whether four gets go well with a new cache.
+fn four_go_well(alloc: Global, table: &mut Table<TextView>) -> Result<bool, Stopped> {
     let mut cache = cache(alloc, 1)?;
+    are_got(alloc, &mut cache, table)
+}
+
+// Whether opening a table and what came of it took so many reads more.
+fn were_read(table: Table<TextView>, more: u64) -> bool {
+    reads_of(table) == OPENING.saturating_add(more)
+}
+
+fn four_gets_read_once(alloc: Global) -> Result<bool, Stopped> {
     let mut four = table(alloc, &[])?;
-    let is_got = are_got(alloc, &mut cache, &mut four)?;
-    Ok(is_got && reads_of(four) == OPENING + 1)
+    let is_got = holds(four_go_well(alloc, &mut four));
+    Ok(were_read(four, 1) && is_got)
+}
+
+// Two tables that are open at once.
+#[derive(Drop)]
+struct Pair {
+    four: Table<TextView>,
+    five: Table<TextView>,
+}
+
+fn both_open(alloc: Global) -> Result<Pair, Stopped> {
+    let four = table(alloc, &[])?;
+    let five = table(alloc, FIVE)?;
+    Ok(Pair { four, five })
 }
 
 // Gets the one key of two tables in turn, twice.
-fn are_got_in_turn(
-    alloc: Global,
-    four: &mut Table<TextView>,
-    five: &mut Table<TextView>,
-) -> Result<bool, Stopped> {
-    let mut cache = cache(alloc, 1)?;
+fn turns(alloc: Global, cache: &mut BlockCache, pair: &mut Pair) -> Result<bool, Stopped> {
     for _turn in 0..2u32 {
-        let first = value_of(alloc, &mut cache, four, b"a")?;
-        let second = value_of(alloc, &mut cache, five, b"a")?;
+        let first = value_of(alloc, cache, &mut pair.four, b"a")?;
+        let second = value_of(alloc, cache, &mut pair.five, b"a")?;
         if first != Some(b'1') || second != Some(b'2') {
             return Ok(false);
         }
@@ -215,22 +226,38 @@ fn are_got_in_turn(
     Ok(true)
 }
 
+fn turns_go_well(alloc: Global, pair: &mut Pair) -> Result<bool, Stopped> {
+    let mut cache = cache(alloc, 1)?;
+    turns(alloc, &mut cache, pair)
+}
+
 fn two_tables_in_turn(alloc: Global) -> Result<bool, Stopped> {
-    let mut four = table(alloc, &[])?;
-    let mut five = table(alloc, FIVE)?;
-    let are_got = are_got_in_turn(alloc, &mut four, &mut five)?;
-    Ok(are_got && reads_of(four) == OPENING + 2 && reads_of(five) == OPENING + 2)
+    let mut pair = both_open(alloc)?;
+    let is_got = holds(turns_go_well(alloc, &mut pair));
+    let Pair { four, five } = pair;
+    let is_four = were_read(four, 2);
+    Ok(were_read(five, 2) && is_four && is_got)
+}
+
+fn is_damaged_twice(alloc: Global, cache: &mut BlockCache, table: &mut Table<TextView>) -> bool {
+    for _turn in 0..2u32 {
+        if value_of(alloc, cache, table, b"a") != Err(DAMAGED) {
+            return false;
+        }
+    }
+    true
+}
+
+// Whether two gets meet the damage, with a new cache.
+fn damage_is_met(alloc: Global, table: &mut Table<TextView>) -> Result<bool, Stopped> {
+    let mut cache = cache(alloc, 1)?;
+    Ok(is_damaged_twice(alloc, &mut cache, table))
 }
 
 fn a_damaged_one_is_read_again(alloc: Global) -> Result<bool, Stopped> {
-    let mut cache = cache(alloc, 1)?;
     let mut damaged = table(alloc, OTHER_KEY)?;
-    for _turn in 0..2u32 {
-        if value_of(alloc, &mut cache, &mut damaged, b"a") != Err(DAMAGED) {
-            return Ok(false);
-        }
-    }
-    Ok(reads_of(damaged) == OPENING + 2)
+    let is_met = holds(damage_is_met(alloc, &mut damaged));
+    Ok(were_read(damaged, 2) && is_met)
 }
 
 #[test]

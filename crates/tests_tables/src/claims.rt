@@ -1,34 +1,25 @@
 //! What a test claims, and a case that stops before it can tell.
 use lsm_block::BlockError;
 use lsm_bytes::NoMemory;
-use lsm_rows::{BatchError, BatchRefusal};
 use lsm_table::TableFault;
-use lsm_version::{ApplyError, EditError};
 use std::process::Abort;
 
 /// A call refused that was to go well.
-#[derive(Clone, Copy, Debug, PartialEq, Eq)]
+#[derive(Clone, Copy)]
 pub struct Stopped;
 
+/// Whether a claim holds; a case that stops makes none.
+pub fn holds(claim: Result<bool, Stopped>) -> bool {
+    matches!(claim, Ok(true))
+}
+
 /// A claim of a test. What it claims is no fact for the proof of the test.
-pub fn sure(rt: &impl Abort, holds: Result<bool, Stopped>) {
-    assert!(rt; matches!(holds, Ok(true)));
+pub fn sure(rt: &impl Abort, claim: Result<bool, Stopped>) {
+    assert!(rt; holds(claim));
 }
 
 impl From<NoMemory> for Stopped {
     fn from(_: NoMemory) -> Self {
-        Stopped
-    }
-}
-
-impl From<BatchRefusal> for Stopped {
-    fn from(_: BatchRefusal) -> Self {
-        Stopped
-    }
-}
-
-impl From<BatchError> for Stopped {
-    fn from(_: BatchError) -> Self {
         Stopped
     }
 }
@@ -41,18 +32,6 @@ impl From<BlockError> for Stopped {
 
 impl From<TableFault> for Stopped {
     fn from(_: TableFault) -> Self {
-        Stopped
-    }
-}
-
-impl From<EditError> for Stopped {
-    fn from(_: EditError) -> Self {
-        Stopped
-    }
-}
-
-impl From<ApplyError> for Stopped {
-    fn from(_: ApplyError) -> Self {
         Stopped
     }
 }

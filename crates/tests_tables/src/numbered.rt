@@ -16,7 +16,8 @@ use std::alloc::Global;
 /// How many rows a table has at most.
 pub const MOST: u32 = 10_000;
 
-/// The user key of the row with this number: two bytes, so that keys come in the order of the numbers.
+/// The user key of the row with this number: two bytes, so that keys come in the order of the
+/// numbers.
 #[tactic(auto, unfolding(lsm_table::specs::NumberedRows::numbered))]
 pub fn numbered_key(number: u32) -> [u8; 2]
     ensures { result ≡ numbered number }
@@ -89,25 +90,38 @@ fn hand_out(builder: &mut TableBuilder, text: &mut Bytes) -> Result<(), NoMemory
     Ok(())
 }
 
-// The text of the table of the first rows, so many.
-fn built(alloc: Global, session: Session, count: u32) -> Result<Bytes, NoMemory> {
+// Writes what is left of a table behind its text so far.
+fn end(builder: TableBuilder, text: &mut Bytes) -> Result<(), NoMemory>
+    requires { 1 ≤ builder.count }
+{
+    let finished = builder.finish()?;
+    text.extend_from_slice(finished.tail.as_slice())
+}
+
+// Writes the table of the first rows, so many.
+fn build(alloc: Global, session: Session, count: u32, text: &mut Bytes) -> Result<(), NoMemory> {
     if count == 0 || count > MOST {
         return Err(NoMemory);
     }
     let mut builder = TableBuilder::new(alloc, 12, session);
-    let mut text = Bytes::new(alloc);
     for number in 0..count {
         add_numbered(alloc, &mut builder, number)?;
-        hand_out(&mut builder, &mut text)?;
+        hand_out(&mut builder, text)?;
     }
-    let finished = builder.finish()?;
-    text.extend_from_slice(finished.tail.as_slice())?;
+    end(builder, text)
+}
+
+// The text of the table of the first rows, so many.
+fn built(alloc: Global, count: u32) -> Result<Bytes, Stopped> {
+    let session = session()?;
+    let mut text = Bytes::new(alloc);
+    build(alloc, session, count, &mut text)?;
     Ok(text)
 }
 
 /// The table of the first rows, so many.
 pub fn table_of(alloc: Global, count: u32) -> Result<Table<TextView>, Stopped> {
-    let text = built(alloc, session()?, count)?;
+    let text = built(alloc, count)?;
     opened(alloc, view_of(text))
 }
 

@@ -1,12 +1,12 @@
 //! Tables of many rows, searched and gone through in runs.
 ghost use Rattle.std.specs.Prelude.{◌≡◌, ◌≤◌, length};
 
-use crate::claims::{Stopped, sure};
-use crate::keys::key;
+use crate::claims::{Stopped, holds, sure};
 use crate::numbered::{
     MOST, are_numbered, is_deleted, is_numbered, numbered_key, numbered_sequence, table_of,
 };
-use crate::table::{blocks, get, nth_block, rows_in};
+use crate::rows::key;
+use crate::table::{blocks, get, locate, nth_block, rows_in};
 use crate::views::{TextView, opened, put_byte};
 use lsm_block::Block;
 use lsm_rows::{InternalKey, Kind, Row, Rows};
@@ -28,13 +28,6 @@ fn read(table: &mut Table<TextView>, place: u64) -> Result<Block, TableFault> {
     table.block(place)
 }
 
-fn locate(table: &Table<TextView>, key: &[u8]) -> Result<u64, Stopped> {
-    match table.locate(key) {
-        Some(place) => Ok(place),
-        None => Err(Stopped),
-    }
-}
-
 fn begun(mut table: Table<TextView>) -> Result<Search, Stopped> {
     let block = read(&mut table, 0)?;
     Ok(Search {
@@ -46,7 +39,9 @@ fn begun(mut table: Table<TextView>) -> Result<Search, Stopped> {
 
 // Reads the block of a key, unless it was the last.
 fn moved(search: &mut Search, key: &[u8]) -> Result<(), Stopped> {
-    let place = locate(&search.table, key)?;
+    let Some(place) = locate(&search.table, key) else {
+        return Err(Stopped);
+    };
     if place != search.place {
         search.block = read(&mut search.table, place)?;
         search.place = place;
@@ -75,8 +70,12 @@ fn is_found(alloc: Global, search: &mut Search, number: u32) -> Result<bool, Sto
 // Whether each row is found. Each block is read once.
 fn each_is_found(alloc: Global, table: Table<TextView>) -> Result<bool, Stopped> {
     let mut search = begun(table)?;
+    are_found(alloc, &mut search)
+}
+
+fn are_found(alloc: Global, search: &mut Search) -> Result<bool, Stopped> {
     for number in 0..MOST {
-        if !is_found(alloc, &mut search, number)? {
+        if !is_found(alloc, search, number)? {
             return Ok(false);
         }
     }
@@ -94,23 +93,33 @@ fn gets_find(table: &mut Table<TextView>) -> Result<bool, Stopped> {
     Ok(true)
 }
 
-// Keys that no row has.
-const ABSENT: &[&'static [u8]] = &[b"", b"\0", b"\0\0\0", b"\x13\x88\0", b"\x27\x10", b"\xff"];
+fn has_none(table: &mut Table<TextView>, key: &[u8]) -> Result<bool, Stopped> {
+    Ok(get(table, key)?.is_none())
+}
 
+// Whether keys that no row has give none.
 fn absent_have_none(table: &mut Table<TextView>) -> Result<bool, Stopped> {
-    for key in ABSENT {
-        if get(table, key)?.is_some() {
-            return Ok(false);
-        }
-    }
-    Ok(true)
+    Ok(
+        has_none(table, b"")?
+            && has_none(table, b"\0")?
+            && has_none(table, b"\0\0\0")?
+            && has_none(table, b"\x13\x88\0")?
+            && has_none(table, b"\x27\x10")?
+            && has_none(table, b"\xff")?,
+    )
+}
+
+fn is_told_and_got(table: &mut Table<TextView>) -> Result<bool, Stopped> {
+    let is_told = table.properties().rows == 10_000;
+    Ok(is_told && gets_find(table)? && absent_have_none(table)?)
 }
 
 fn ten_thousand_are_found(alloc: Global) -> Result<bool, Stopped> {
     let mut table = table_of(alloc, MOST)?;
-    let is_told = table.properties().rows == 10_000;
-    let is_got = gets_find(&mut table)? && absent_have_none(&mut table)?;
-    Ok(is_told && is_got && each_is_found(alloc, table)?)
+    if !holds(is_told_and_got(&mut table)) {
+        return Ok(false);
+    }
+    each_is_found(alloc, table)
 }
 
 fn first_rows(table: &mut Table<TextView>, count: u32) -> Result<Rows, TableFault> {
@@ -140,6 +149,16 @@ fn row_key(alloc: Global, number: u32) -> Result<InternalKey, Stopped> {
     )
 }
 
+fn run_behind(
+    alloc: Global,
+    table: &mut Table<TextView>,
+    number: u32,
+    count: u32,
+) -> Result<Rows, Stopped> {
+    let before = row_key(alloc, number)?;
+    Ok(rows_after(table, &before, count)?)
+}
+
 // The run of at most so many rows that begins with this number.
 fn run_from(
     alloc: Global,
@@ -150,8 +169,7 @@ fn run_from(
     if number == 0 {
         return Ok(first_rows(table, count)?);
     }
-    let before = row_key(alloc, number - 1)?;
-    Ok(rows_after(table, &before, count)?)
+    run_behind(alloc, table, number - 1, count)
 }
 
 // How many rows a run of at most so many has that begins with this number.
@@ -159,7 +177,8 @@ fn run_len(number: u32, count: u32) -> u32 {
     count.min(COUNT.saturating_sub(number))
 }
 
-// The number behind the run of at most so many rows that begins with this number; None where it isn't the right one.
+// The number behind the run of at most so many rows that begins with this number; None where it
+// isn't the right one.
 fn number_behind(
     alloc: Global,
     table: &mut Table<TextView>,
@@ -194,35 +213,47 @@ fn is_gone_through(
     Ok(false)
 }
 
-// The number of rows of the data block of this number, which are those from this one on; None where they aren't.
-fn len_of_block(
+// The number behind rows that begin with this one; None where they aren't the right ones.
+fn behind_rows(rows: &Rows, number: u32) -> Option<u32> {
+    let len = u32::try_from(rows.len()).ok()?;
+    if are_numbered(rows, number, len) {
+        Some(number.saturating_add(len))
+    } else {
+        None
+    }
+}
+
+// And behind the rows of a block.
+fn behind_block(alloc: Global, block: &Block, number: u32) -> Result<Option<u32>, Stopped> {
+    Ok(behind_rows(&rows_in(alloc, block)?, number))
+}
+
+// And behind those of the data block of this number.
+fn behind_nth(
     alloc: Global,
     table: &mut Table<TextView>,
     nth: usize,
     number: u32,
 ) -> Result<Option<u32>, Stopped> {
-    let rows = rows_in(alloc, &nth_block(table, nth)?)?;
-    let Ok(len) = u32::try_from(rows.len()) else {
-        return Ok(None);
-    };
-    if are_numbered(&rows, number, len) {
-        Ok(Some(len))
-    } else {
-        Ok(None)
-    }
+    let block = nth_block(table, nth)?;
+    behind_block(alloc, &block, number)
 }
 
 // Whether the data blocks, of which there are many, give all rows in turn.
-fn blocks_give_the_rows(alloc: Global) -> Result<bool, Stopped> {
-    let mut table = table_of(alloc, COUNT)?;
+fn blocks_are_in_turn(alloc: Global, table: &mut Table<TextView>) -> Result<bool, Stopped> {
     let mut number = 0u32;
-    for nth in 0..blocks(&table) {
-        let Some(len) = len_of_block(alloc, &mut table, nth, number)? else {
+    for nth in 0..blocks(table) {
+        let Some(next) = behind_nth(alloc, table, nth, number)? else {
             return Ok(false);
         };
-        number = number.saturating_add(len);
+        number = next;
     }
-    Ok(number == COUNT && blocks(&table) > 10)
+    Ok(number == COUNT && blocks(table) > 10)
+}
+
+fn blocks_give_the_rows(alloc: Global) -> Result<bool, Stopped> {
+    let mut table = table_of(alloc, COUNT)?;
+    blocks_are_in_turn(alloc, &mut table)
 }
 
 // The table of all rows, whose first data block has another byte in its first key.
@@ -232,29 +263,43 @@ fn damaged(alloc: Global) -> Result<Table<TextView>, Stopped> {
     opened(alloc, view)
 }
 
-// Whether the block behind a damaged one has its rows.
+fn has_rows(alloc: Global, block: &Block) -> Result<bool, Stopped> {
+    Ok(!rows_in(alloc, block)?.is_empty())
+}
+
+// Whether the first data block is damaged, and the next has its rows.
+fn second_is_whole(alloc: Global, table: &mut Table<TextView>) -> Result<bool, Stopped> {
+    let is_damaged = nth_block(table, 0).is_err();
+    let block = nth_block(table, 1)?;
+    Ok(has_rows(alloc, &block)? && is_damaged)
+}
+
 fn the_next_is_whole(alloc: Global) -> Result<bool, Stopped> {
     let mut table = damaged(alloc)?;
-    let is_damaged = nth_block(&mut table, 0).is_err();
-    Ok(is_damaged && !rows_in(alloc, &nth_block(&mut table, 1)?)?.is_empty())
+    second_is_whole(alloc, &mut table)
 }
 
 fn no_run_is_empty(table: &mut Table<TextView>) -> Result<bool, Stopped> {
     Ok(first_rows(table, 0)?.is_empty())
 }
 
-fn runs_give_the_rows(alloc: Global) -> Result<bool, Stopped> {
-    let mut table = table_of(alloc, COUNT)?;
-    for count in &[7u32, 1_024, 2_000, 20_000] {
-        if !is_gone_through(alloc, &mut table, *count)? {
-            return Ok(false);
-        }
-    }
-    no_run_is_empty(&mut table)
+fn runs_are_in_turn(alloc: Global, table: &mut Table<TextView>) -> Result<bool, Stopped> {
+    Ok(
+        is_gone_through(alloc, table, 7)?
+            && is_gone_through(alloc, table, 1_024)?
+            && is_gone_through(alloc, table, 2_000)?
+            && is_gone_through(alloc, table, 20_000)?
+            && no_run_is_empty(table)?,
+    )
 }
 
-// Keys between rows, and the number of the row behind each: of a user key in between, and of a row's user key with
-// greater and smaller sequences.
+fn runs_give_the_rows(alloc: Global) -> Result<bool, Stopped> {
+    let mut table = table_of(alloc, COUNT)?;
+    runs_are_in_turn(alloc, &mut table)
+}
+
+// Keys between rows, and the number of the row behind each: of a user key in between, and of a
+// row's user key with greater and smaller sequences.
 const BETWEEN: &[(&'static [u8], u64, u32)] = &[
     (b"", 5, 0),
     (b"\x01\0\0", 5, 257),
@@ -275,14 +320,18 @@ fn begins_behind(
     Ok(are_numbered(&rows, number, run_len(number, 400)))
 }
 
-fn runs_begin_between(alloc: Global) -> Result<bool, Stopped> {
-    let mut table = table_of(alloc, COUNT)?;
+fn each_begins_behind(alloc: Global, table: &mut Table<TextView>) -> Result<bool, Stopped> {
     for (user, sequence, number) in BETWEEN {
-        if !begins_behind(alloc, &mut table, user, *sequence, *number)? {
+        if !begins_behind(alloc, table, user, *sequence, *number)? {
             return Ok(false);
         }
     }
     Ok(true)
+}
+
+fn runs_begin_between(alloc: Global) -> Result<bool, Stopped> {
+    let mut table = table_of(alloc, COUNT)?;
+    each_begins_behind(alloc, &mut table)
 }
 
 #[test]

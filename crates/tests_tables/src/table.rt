@@ -1,10 +1,11 @@
 //! Tables against those of another writer, and tables in their order.
-ghost use Rattle.std.specs.Prelude.{◌≡◌, ◌<◌, ◌≤◌, ◌^◌, length};
+ghost use Rattle.std.specs.Prelude.{◌≡◌, ◌<◌, ◌≤◌, ◌^◌, length, IfOk};
+ghost use Rattle.lsm_table.specs.Building.{row_len};
 
 use crate::block::parsed;
-use crate::claims::{Stopped, sure};
+use crate::claims::{Stopped, holds, sure};
 use crate::rows::has_value;
-use crate::views::{ONE_TABLE, TextView, changed, opened, refusal, session};
+use crate::views::{ONE_TABLE, TextView, changed, refusal, session, table};
 use lsm_block::Block;
 use lsm_bytes::{Bytes, NoMemory};
 use lsm_rows::{Row, Rows};
@@ -20,14 +21,25 @@ struct Begun {
     ghost some: { 1 ≤ builder.count },
 }
 
-// The table with the number 4, with the row `a` of the sequence 1 and the value `1`.
-fn one_row(alloc: Global) -> Result<Begun, Stopped> {
-    let row = Row {
-        key: Bytes::from_slice(alloc, b"a")?,
+// The row `a` with the sequence 1 and the value `1`.
+fn row(alloc: Global) -> Result<Row, NoMemory>
+    ensures sequence { IfOk result (λ row. row.sequence ≡ 1) }
+    ensures len { IfOk result (λ row. row_len row ≤ 2) }
+{
+    let key = Bytes::from_slice(alloc, b"a")?;
+    let value = Bytes::from_slice(alloc, b"1")?;
+    Ok(Row {
+        key,
         sequence: 1,
-        value: Some(Bytes::from_slice(alloc, b"1")?),
-    };
-    let mut builder = TableBuilder::new(alloc, 4, session()?);
+        value: Some(value),
+    })
+}
+
+// The table with the number 4 and that row.
+fn one_row(alloc: Global) -> Result<Begun, Stopped> {
+    let session = session()?;
+    let row = row(alloc)?;
+    let mut builder = TableBuilder::new(alloc, 4, session);
     builder.add(&row)?;
     Ok(Begun { builder })
 }
@@ -50,11 +62,12 @@ fn is_of_130_bytes(alloc: Global) -> Result<bool, Stopped> {
     let begun = one_row(alloc)?;
     let is_of_21 = data_len(&begun) == 21;
     let finished = finished(begun)?;
-    Ok(is_of_21 && finished.size == 130 && has_this_text(&finished))
+    Ok(has_this_text(&finished) && is_of_21)
 }
 
 fn has_this_text(finished: &Finished) -> bool {
-    finished.tail.as_slice() == ONE_TABLE.as_slice()
+    finished.size == 130
+        && finished.tail.as_slice() == ONE_TABLE.as_slice()
         && finished.smallest.as_slice() == b"a\x01\x01\0\0\0\0\0\0".as_slice()
         && finished.largest == finished.smallest
 }
@@ -94,18 +107,30 @@ fn has(alloc: Global, block: &Block, key: &[u8], value: Option<&[u8]>) -> Result
     }
 }
 
-fn has_rows_of_its_keys(alloc: Global) -> Result<bool, Stopped> {
-    let block = parsed(alloc, DELETE_AND_PUT)?;
+fn has_both(alloc: Global, block: &Block) -> Result<bool, Stopped> {
     Ok(
-        has_sequences(alloc, &block)?
-            && has(alloc, &block, b"a", None)?
-            && has(alloc, &block, b"b", Some(b"x"))?,
+        has_sequences(alloc, block)?
+            && has(alloc, block, b"a", None)?
+            && has(alloc, block, b"b", Some(b"x"))?,
     )
 }
 
+fn has_rows_of_its_keys(alloc: Global) -> Result<bool, Stopped> {
+    let block = parsed(alloc, DELETE_AND_PUT)?;
+    has_both(alloc, &block)
+}
+
+fn are_both(rows: &Rows) -> bool {
+    rows.len() == 2 && is_at(rows, 0, 2, None) && is_at(rows, 1, 1, Some(b"x"))
+}
+
+fn gives_both(alloc: Global, block: &Block) -> Result<bool, Stopped> {
+    Ok(are_both(&rows_in(alloc, block)?))
+}
+
 fn has_rows_in_turn(alloc: Global) -> Result<bool, Stopped> {
-    let rows = rows_in(alloc, &parsed(alloc, DELETE_AND_PUT)?)?;
-    Ok(rows.len() == 2 && is_at(&rows, 0, 2, None) && is_at(&rows, 1, 1, Some(b"x")))
+    let block = parsed(alloc, DELETE_AND_PUT)?;
+    gives_both(alloc, &block)
 }
 
 // Whether the row at a place has this sequence and this value.
@@ -116,7 +141,8 @@ fn is_at(rows: &Rows, place: usize, sequence: u64, value: Option<&[u8]>) -> bool
     }
 }
 
-/// How many bytes of the table of one row are there; which of them are others; and what is wrong then.
+/// How many bytes of the table of one row are there; which of them are others; and what is wrong
+/// then.
 type Change = (usize, &'static [(usize, u8)], TableFault);
 
 // Each change of contents but the damaged ones has its own right checksum.
@@ -159,7 +185,8 @@ fn a_broken_view_is_handed_back(alloc: Global) -> Result<bool, Stopped> {
     }
 }
 
-fn locate(table: &Table<TextView>, key: &[u8]) -> Option<u64> {
+/// Where the data block stands in which a table has a key.
+pub fn locate(table: &Table<TextView>, key: &[u8]) -> Option<u64> {
     table.locate(key)
 }
 
@@ -204,11 +231,20 @@ fn properties(table: &Table<TextView>) -> Properties {
 
 // Whether the table whose data block has this byte in its key is met so.
 fn is_met(alloc: Global, byte: u8, fault: Option<TableFault>) -> Result<bool, Stopped> {
-    let mut table = opened(alloc, changed(alloc, 130, &[(3, byte)])?)?;
-    let is_located = locate(&table, b"a") == Some(0);
-    let is_block = block_fault(&mut table, 0) == fault;
-    let is_first = blocks(&table) == 1 && first_fault(&mut table) == fault;
-    Ok(is_located && is_block && is_first && get(&mut table, b"a").err() == fault)
+    let mut table = table(alloc, &[(3, byte)])?;
+    Ok(meets(&mut table, fault))
+}
+
+fn meets(table: &mut Table<TextView>, fault: Option<TableFault>) -> bool {
+    locate(table, b"a") == Some(0)
+        && blocks(table) == 1
+        && block_fault(table, 0) == fault
+        && first_fault(table) == fault
+        && get_fault(table, b"a") == fault
+}
+
+fn get_fault(table: &mut Table<TextView>, key: &[u8]) -> Option<TableFault> {
+    get(table, key).err()
 }
 
 /// What is wrong with the data block of the table of one row, where its key is `b` in place of `a`.
@@ -226,13 +262,23 @@ fn gets(table: &mut Table<TextView>, key: &[u8], sequence: u64) -> Result<bool, 
     Ok(sequence_of(get(table, key)?) == sequence)
 }
 
+fn has_one_row(table: &mut Table<TextView>) -> Result<bool, Stopped> {
+    Ok(gets(table, b"a", 1)? && gets(table, b"", 0)? && gets(table, b"b", 0)?)
+}
+
+fn tells_one_row(table: &Table<TextView>) -> bool {
+    let told = properties(table);
+    told.number == 4 && told.rows == 1
+}
+
+fn faults_of(table: Table<TextView>) -> u64 {
+    table.into_view().faults
+}
+
 fn has_its_row(alloc: Global) -> Result<bool, Stopped> {
-    let mut table = opened(alloc, changed(alloc, 130, &[])?)?;
-    let told = properties(&table);
-    let is_found = gets(&mut table, b"a", 1)?
-        && gets(&mut table, b"", 0)?
-        && gets(&mut table, b"b", 0)?;
-    Ok(is_found && told.number == 4 && told.rows == 1 && table.into_view().faults == 0)
+    let mut table = table(alloc, &[])?;
+    let is_found = holds(has_one_row(&mut table)) && tells_one_row(&table);
+    Ok(faults_of(table) == 0 && is_found)
 }
 
 fn push(tables: &mut Tables<TextView>, table: Table<TextView>) -> Result<(), Stopped> {
@@ -257,12 +303,16 @@ fn popped(tables: &mut Tables<TextView>) -> Option<u64> {
     }
 }
 
+fn go_in_and_out(alloc: Global, tables: &mut Tables<TextView>) -> Result<bool, Stopped> {
+    push(tables, table(alloc, &[])?)?;
+    let is_found = tables.len() == 1 && sequence_of(get_in_first(tables, b"a")?) == 1;
+    Ok(is_found && popped(tables) == Some(4) && popped(tables).is_none())
+}
+
 fn are_in_order(alloc: Global) -> Result<bool, Stopped> {
     let mut tables = Tables::new(alloc);
     let none = tables.is_empty();
-    push(&mut tables, opened(alloc, changed(alloc, 130, &[])?)?)?;
-    let is_found = tables.len() == 1 && sequence_of(get_in_first(&mut tables, b"a")?) == 1;
-    Ok(none && is_found && popped(&mut tables) == Some(4) && popped(&mut tables).is_none())
+    Ok(none && go_in_and_out(alloc, &mut tables)?)
 }
 
 #[test]

@@ -75,6 +75,11 @@ pub fn changed(alloc: Global, len: usize, changes: &[(usize, u8)]) -> Result<Tex
     Ok(view)
 }
 
+/// The table of one row, with other bytes at these places.
+pub fn table(alloc: Global, changes: &[(usize, u8)]) -> Result<Table<TextView>, Stopped> {
+    opened(alloc, changed(alloc, 130, changes)?)
+}
+
 /// Puts another byte at a place, if there is one.
 pub fn put_byte(bytes: &mut Vec<u8>, place: usize, byte: u8) {
     if let Some(there) = bytes.get_mut(place) {

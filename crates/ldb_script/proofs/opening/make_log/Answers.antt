@@ -6,7 +6,8 @@ use Rattle.lsm_disk.specs.Goes.{Went}
 use Rattle.lsm_disk.specs.Kept.{Making}
 use Rattle.lsm_disk.specs.Answers.{RefusesBy}
 use Rattle.lsm_disk.specs.Halts.{halt_at, IsAmong}
-use Rattle.lsm_wal.specs.Making.{MayHaveNew}
+use Rattle.lsm_wal.specs.Making.{MayHaveNew, with_made}
+use Rattle.lsm_disk.proofs.Runs.{went_weaker}
 use Rattle.lsm_wal.specs.Shown.{Shown}
 use Rattle.lsm_wal.specs.Standing.{IsWal}
 use Rattle.ldb_script.specs.Stored.{log_path}
@@ -29,8 +30,13 @@ returns-in-Ok-clause-made g c =
     let told = (seen c.create.new.disk).told in
     leads_by (HasCurrent folder) (Fills folder (HasStore folder)) (seen c.args.disk.now).told told
     (λ story tells has.
+    let path : List ℕ = c.file.result in
+    let made : Went story told (Making path) (MayHaveNew (state_of story) path) (λ (s : State). IsWal s path [] 0) =
+    went_weaker (λ (s : State). IsWal s path [] 0 × (s ≡ with_made path (state_of story))) (λ (s : State). IsWal s path [] 0)
+    (λ s is. is.0) (c.in-Ok.ensures.went story tells) in
     let w : Went story told (Making (log_path folder)) (MayHaveNew (state_of story) (log_path folder)) (λ (s : State). IsWal s (log_path folder) [] 0) =
-    subst (λ (p : List ℕ). Went story told (Making p) (MayHaveNew (state_of story) p) (λ (s : State). IsWal s p [] 0)) (c.file.ensures ∙ log_spelled folder) (c.in-Ok.ensures.went story tells) in
+    subst (λ (p : List ℕ). Went story told (Making p) (MayHaveNew (state_of story) p) (λ (s : State). IsWal s p [] 0))
+    (c.file.ensures ∙ log_spelled folder) made in
     record { story = w.story; tells = w.tells; holds = fills_store folder story told (MayHaveNew (state_of story) (log_path folder)) has w })
 
 pub returns-in-Err-clause-refused : goal.returns-in-Err-clause-refused

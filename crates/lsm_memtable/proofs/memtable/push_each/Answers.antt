@@ -21,3 +21,6 @@ loop-op-preserved c = (
 
 pub returns-clause-before : goal.returns-clause-before
 returns-clause-before c = before_all c.args.first c.args.rows.now c.loop-op.rows c.args.ops.now c.loop-op.op-index c.loop-op.invariant.1 (omega arith)
+
+pub returns-clause-undo : goal.returns-clause-undo
+returns-clause-undo c = c.loop-op.invariant.1.kept

@@ -1,5 +1,5 @@
 use Rattle.std.proofs.Common.{◌∙◌}
-use Rattle.lsm_folder.proofs.PlainLemmas.{no_newline, no_name, found_name}
+use Rattle.lsm_folder.proofs.CurrentLemmas.{no_newline, no_name, found_name}
 use Rattle.lsm_recover.proofs.current.named_manifest.Goals as goal
 
 pub returns-in_default-clause-is : goal.returns-in_default-clause-is

@@ -4,7 +4,6 @@ use Rattle.lsm_names.proofs.PathLemmas.{path_has_bytes}
 use Rattle.lsm_disk.specs.State.{Story, state_of, file_now, bytes_of}
 use Rattle.lsm_disk.specs.Refusals.{no_file}
 use Rattle.lsm_disk.specs.Answers.{RefusesBy}
-use Rattle.lsm_frame.specs.Reader.{Tells}
 use Rattle.lsm_folder.specs.Reading.{current_of}
 use Rattle.lsm_recover.specs.declared.errors.FolderError.TheVariants.{NoCurrent}
 use Rattle.lsm_recover.specs.Answers.{AnswersAs, IsRefusedBy, files_now}

@@ -1,6 +1,6 @@
-use Rattle.std.proofs.Common.{arith, sym, ap, ◌≡◌}
-use Rattle.std.specs.Prelude.{◌<◌, length, None, Err}
-use Rattle.lsm_folder.specs.Reading.{some_or}
+use Rattle.std.proofs.Common.{arith, ap}
+use Rattle.std.specs.Prelude.{◌<◌, length}
+use Rattle.lsm_folder.specs.Steps.{some_or}
 use Rattle.lsm_folder.specs.declared.refusals.Refusal.TheVariants.{Malformed}
 use Rattle.lsm_names.specs.declared.file_names.FileName.TheVariants.{Current}
 use Rattle.lsm_recover.proofs.ListedLemmas.{too_long}

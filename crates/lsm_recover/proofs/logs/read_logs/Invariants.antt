@@ -1,4 +1,4 @@
-use Rattle.std.proofs.Common.{◌≡◌, ◌+◌, ◌-◌, ◌^◌, ◌≤◌, ℕ, true}
+use Rattle.std.proofs.Common.{◌≡◌, ◌-◌, ◌^◌, ◌≤◌, true}
 use Rattle.std.specs.Prelude.{IfSome}
 use Rattle.lsm_names.specs.Paths.{is_path}
 use Rattle.lsm_disk.specs.State.{Story}
@@ -11,7 +11,7 @@ invariant-loop-number g l = record {
   told : (g.D.Disk.seen l.disk).told ≡ (g.D.Disk.seen l.initial.disk).told;
   faults_later : (g.D.Disk.seen l.initial.disk).faults ≤ (g.D.Disk.seen l.disk).faults;
   refusals_later : (g.D.Disk.seen l.initial.disk).refusals ≤ (g.D.Disk.seen l.disk).refusals;
-  replayed : IfSome (g.D.Disk.seen l.initial.disk).told (λ (story : Story). HasReplayed l.dir story l.entries l.fn.version l.least l.initial.contents l.contents l.last);
+  replayed : IfSome (g.D.Disk.seen l.initial.disk).told (λ (story : Story). HasReplayed l.dir story l.entries l.log l.fn.last l.least l.initial.rows l.rows l.last);
 }
 
 abbrev pub decreases-loop-number : goal.decreases-loop-number

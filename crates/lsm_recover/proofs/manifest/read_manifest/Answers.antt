@@ -1,19 +1,14 @@
 -- Each exit, by what the calls before it told.
-use Rattle.std.specs.Prelude.{◌<◌}
-use Rattle.std.proofs.Common.{◌≡◌, None, refl, sym, ap, subst, ◌∙◌}
+use Rattle.std.proofs.Common.{◌≡◌, None, sym, subst}
 use Rattle.lsm_names.proofs.PathLemmas.{path_has_bytes}
-use Rattle.lsm_names.specs.declared.file_names.FileName.TheVariants.{Manifest}
 use Rattle.lsm_disk.specs.State.{Story, state_of, file_now, bytes_of}
-use Rattle.lsm_disk.specs.Viewed.{Viewed}
 use Rattle.lsm_disk.specs.Refusals.{no_file}
 use Rattle.lsm_disk.specs.Answers.{RefusesBy}
 use Rattle.lsm_frame.specs.Reader.{Reader, Tells}
 use Rattle.lsm_folder.specs.Reading.{edits_of}
-use Rattle.lsm_recover.specs.declared.errors.FolderError.TheVariants.{Missing}
 use Rattle.lsm_recover.specs.Answers.{IsRefusedBy, files_now}
-use Rattle.lsm_recover.specs.Found.{AnswersVersion}
+use Rattle.lsm_recover.specs.Stated.{AnswersStated}
 use Rattle.lsm_recover.proofs.OpenLemmas.{where_told, told_that}
-use Rattle.lsm_recover.proofs.CauseLemmas.{view_cause, call_cause}
 use Rattle.lsm_recover.proofs.PartLemmas.{manifest_said, manifest_refused}
 use Rattle.lsm_recover.proofs.manifest.read_manifest.Goals as goal
 
@@ -22,22 +17,13 @@ returns-in-Ok-clause-answer g c =
     let dir = c.args.dir.now in
     let path = c.file_path-path.result in
     let told = (g.D.Disk.seen c.args.disk.now).told in
-    where_told told (λ (story : Story). AnswersVersion (edits_of (files_now dir story) c.args.number) c.read_edits-version.result)
+    where_told told (λ (story : Story). AnswersStated (edits_of (files_now dir story) c.args.number) c.read_edits-stated.result)
     (λ story is.
     let text = bytes_of (file_now path (state_of story)) in
     let tells = told_that told _ story is c.in-Ok.ensures.tells in
-    manifest_said dir story (path_has_bytes dir c.file_path-path.ensures.folder) path c.args.number c.read_edits-version.result c.requires.number c.file_path-path.ensures.path
+    manifest_said dir story (path_has_bytes dir c.file_path-path.ensures.folder) path c.args.number c.read_edits-stated.result c.requires.number c.file_path-path.ensures.path
     (told_that told (λ (x : Story). no_file path (state_of x) ≡ None) story is c.in-Ok.ensures.there)
-    (c.read_edits-version.ensures.answer text (subst (λ (r : Reader). Tells r.viewed text) (sym c.new-reader.ensures) tells)))
-
-pub returns-in-Ok-clause-cause : goal.returns-in-Ok-clause-cause
-returns-in-Ok-clause-cause g c =
-    let seen = g.D.Disk.seen in
-    let now = c.into_view.result in
-    let begun = ap (λ (r : Reader). r.viewed.faults) c.new-reader.ensures ∙ c.in-Ok.ensures.fresh in
-    view_cause c.args.dir.now (seen c.args.disk.now) (seen c.open_whole.new.disk) (seen c.close.new.self) c.new-reader.result.viewed c.read_edits-version.new.reader.viewed c.read_edits-version.result c.read_edits-version.ensures.cause begun
-    (λ some. c.close.ensures.faults (subst (λ (v : Viewed). 0 < v.faults) (sym c.into_view.ensures) some))
-    c.in-Ok.ensures.cause.faults_later c.close.ensures.later c.in-Ok.ensures.cause.refusals_later c.close.ensures.refusals
+    (c.read_edits-stated.ensures.answer text (subst (λ (r : Reader). Tells r.viewed text) (sym c.new-reader.ensures) tells)))
 
 pub returns-in-Err-clause-answer : goal.returns-in-Err-clause-answer
 returns-in-Err-clause-answer g c =
@@ -48,9 +34,3 @@ returns-in-Err-clause-answer g c =
     (λ story is. subst (IsRefusedBy (edits_of (files_now dir story) c.args.number)) (sym c.error_by.ensures)
     (manifest_refused dir story (path_has_bytes dir c.file_path-path.ensures.folder) path c.args.number c.in-Err.refused c.requires.number c.file_path-path.ensures.path
     (told_that told (λ (x : Story). RefusesBy (no_file path (state_of x)) c.in-Err.refused.why) story is c.in-Err.ensures.refused)))
-
-pub returns-in-Err-clause-cause : goal.returns-in-Err-clause-cause
-returns-in-Err-clause-cause g c =
-    let seen = g.D.Disk.seen in
-    let cause = c.in-Err.ensures.cause in
-    call_cause c.args.dir.now (seen c.args.disk.now) (seen c.open_whole.new.disk) (Missing (Manifest c.args.number)) c.in-Err.refused c.error_by.result c.error_by.ensures cause.faults_later cause.refusals_later cause.counted (λ rose. rose)

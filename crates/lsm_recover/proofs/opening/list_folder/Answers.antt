@@ -1,17 +1,15 @@
 -- Each exit, by what the call told.
-use Rattle.std.proofs.Common.{◌≡◌, None, refl, sym, subst, ap}
-use Rattle.lsm_disk.specs.Names.{is_folder}
+use Rattle.std.proofs.Common.{◌≡◌, None, refl, sym, subst}
 use Rattle.lsm_disk.specs.State.{Story, state_of, names_now}
 use Rattle.lsm_disk.specs.Listing.{listing}
 use Rattle.lsm_disk.specs.Refusals.{no_folder}
 use Rattle.lsm_disk.specs.Answers.{RefusesBy, HasRisen}
-use Rattle.lsm_disk.specs.declared.calls.DiskError.{DiskError}
-use Rattle.lsm_folder.specs.Reading.{reading}
 use Rattle.lsm_recover.specs.declared.errors.FolderError.TheVariants.{NoFolder}
 use Rattle.lsm_recover.specs.Answers.{IsRefusedBy, place_now}
+use Rattle.lsm_recover.specs.Head.{edits_there}
 use Rattle.lsm_recover.specs.Listed.{IsListing}
 use Rattle.lsm_recover.proofs.OpenLemmas.{where_told, told_that}
-use Rattle.lsm_recover.proofs.DiskLemmas.{refused_call, folder_missing, folder_there}
+use Rattle.lsm_recover.proofs.DiskLemmas.{list_refused, folder_there}
 use Rattle.lsm_recover.proofs.CauseLemmas.{call_cause}
 use Rattle.lsm_recover.proofs.opening.list_folder.Goals as goal
 
@@ -29,11 +27,9 @@ pub returns-in-Err-clause-refused : goal.returns-in-Err-clause-refused
 returns-in-Err-clause-refused g c =
     let dir = c.args.dir.now in
     let told = (g.D.Disk.seen c.args.disk.now).told in
-    where_told told (λ (story : Story). IsRefusedBy (reading (place_now dir story)) c.error_by.result)
-    (λ story is.
-    let why = subst (RefusesBy (no_folder dir (state_of story))) (sym c.refusal.ensures.why) (told_that told (λ (x : Story). RefusesBy (no_folder dir (state_of x)) c.in-Err.why) story is c.in-Err.ensures.answer) in
-    subst (IsRefusedBy (reading (place_now dir story))) (sym c.error_by.ensures)
-    (refused_call (reading (place_now dir story)) (NoFolder dir) c.refusal.result.at c.refusal.result.why (is_folder (names_now (state_of story)) dir) why (folder_missing dir (state_of story))))
+    where_told told (λ (story : Story). IsRefusedBy (edits_there (place_now dir story)) c.error_by.result)
+    (λ story is. list_refused dir (state_of story) c.refusal.result c.error_by.result c.error_by.ensures
+    (subst (RefusesBy (no_folder dir (state_of story))) (sym c.refusal.ensures.why) (told_that told (λ (x : Story). RefusesBy (no_folder dir (state_of x)) c.in-Err.why) story is c.in-Err.ensures.answer)))
 
 pub returns-in-Err-clause-cause : goal.returns-in-Err-clause-cause
 returns-in-Err-clause-cause g c =

@@ -4,7 +4,6 @@ use Rattle.std.specs.Prelude.{length}
 use Rattle.lsm_disk.specs.State.{Story, state_of, file_now, bytes_of}
 use Rattle.lsm_disk.specs.Refusals.{no_file, no_view}
 use Rattle.lsm_disk.specs.Answers.{RefusesBy}
-use Rattle.lsm_frame.specs.Reader.{Tells}
 use Rattle.lsm_recover.proofs.OpenLemmas.{where_told, told_that, view_refused, view_tells}
 use Rattle.lsm_recover.proofs.opening.open_whole.Goals as goal
 

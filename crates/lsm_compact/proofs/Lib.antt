@@ -1,0 +1,14 @@
+pub mod Applying
+pub mod Ascending
+pub mod Growing
+pub mod Keeping
+pub mod Keys
+pub mod Levels
+pub mod Listing
+pub mod Lookups
+pub mod Members
+pub mod Newest
+pub mod Outside
+pub mod Picks
+pub mod RangeLemmas
+pub mod RowWeights

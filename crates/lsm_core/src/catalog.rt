@@ -1,0 +1,88 @@
+//! The catalog of a store.
+ghost use Rattle.std.specs.Prelude.{◌≡◌, if◌then◌else◌};
+ghost use Rattle.lsm_core.specs.Closing.{HasHandedBack};
+ghost use Rattle.lsm_refine.specs.Calls.{is_own_kept};
+ghost use Rattle.lsm_refine.specs.Caused.{kept_pin_of, unpinned};
+
+use crate::pins::{Pin, has_own};
+use crate::tables::{OpenTables, close_all};
+use lsm_disk::{Disk, View};
+use lsm_version::Version;
+use std::marker::Model;
+
+/// What a store keeps of itself beside its disk, its last log, its manifest and its rows in memory:
+/// the version with the tables that are open, from which number on logs are needed and up to which
+/// sequence rows are in tables, the pins, and how often the deletion of files is disabled.
+///
+/// Contracts see it as a part of all that a store keeps. What the store keeps elsewhere is empty or
+/// 0 there: rows, logs, the manifest, the next number and the known names. So is what may be under
+/// way, a flush, a compaction or a restore, since there is none yet.
+#[derive(Drop)]
+pub struct Catalog<V: View> {
+    version: Version,
+    tables: OpenTables<V>,
+    log: u64,
+    last: u64,
+    pins: Vec<Pin>,
+    greatest_pin: u64,
+    disables: u32,
+}
+
+impl<V: View> Model for Catalog<V> {
+    ghost use Rattle.lsm_refine.specs.Kept.{Kept};
+    ghost use Rattle.lsm_refine.specs.Codes.{coded_kept};
+    ghost use Rattle.lsm_core.specs.Catalogs.{AreGiven, kept_with};
+
+    ghost Value = { Kept };
+
+    ghost coded = { coded_kept };
+
+    ghost view = { λ c. kept_with c.version c.tables c.log c.last c.pins.items c.greatest_pin c.disables };
+
+    ghost invariant = { λ c. AreGiven c.pins.items c.greatest_pin };
+}
+
+impl<V: View> Catalog<V> {
+    /// Ends the pin of this number, where one is there and its caller's own, and says whether it is
+    /// so. It takes no memory.
+    pub fn unpin(&mut self, number: u64) -> bool
+        ensures own { result ≡ is_own_kept (kept_pin_of number self.old.pins) }
+        ensures kept { self.new ≡ (if result then unpinned number self.old else self.old) }
+    {
+        if !has_own(&self.pins, number) {
+            return false;
+        }
+        self.pins.retain(move |pin| pin.number() != number);
+        true
+    }
+
+    /// How often the deletion of files is disabled.
+    pub fn disables(&self) -> u32
+        ensures { result ≡ self.now.disables }
+    {
+        self.disables
+    }
+
+    /// From now on the deletion of files is disabled so often.
+    pub fn set_disables(&mut self, count: u32)
+        ensures { self.new ≡ record self.old { disables = count } }
+    {
+        self.disables = count;
+    }
+}
+
+/// Ends a catalog: the view of each open table goes to the disk's `close`.
+pub fn close_tables<D: Disk>(catalog: Catalog<D::View>, disk: &mut D)
+    ensures { HasHandedBack catalog.views (D.seen disk.old) (D.seen disk.new) }
+{
+    let Catalog {
+        version: _version,
+        tables,
+        log: _,
+        last: _,
+        pins: _pins,
+        greatest_pin: _,
+        disables: _,
+    } = catalog;
+    close_all(tables, disk);
+}

@@ -1,0 +1,11 @@
+pub mod Closing
+pub mod Deciding
+pub mod Giving
+pub mod Joining
+pub mod Lending
+pub mod Lists
+pub mod Moves
+pub mod Orders
+pub mod Running
+pub mod Taking
+pub mod Tops

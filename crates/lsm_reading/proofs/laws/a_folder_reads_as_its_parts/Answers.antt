@@ -1,5 +1,0 @@
-use Rattle.lsm_reading.proofs.AssembledLemmas.{assembled}
-use Rattle.lsm_reading.proofs.laws.a_folder_reads_as_its_parts.Goals as goal
-
-pub returns : goal.returns
-returns c = assembled

@@ -1,5 +1,0 @@
-use Rattle.lsm_reading.proofs.StandingLemmas.{parts_stand}
-use Rattle.lsm_reading.proofs.laws.a_folder_stands_as_its_parts.Goals as goal
-
-pub returns : goal.returns
-returns c = parts_stand

@@ -1,0 +1,5 @@
+pub mod Answering
+pub mod Closing
+pub mod Fields
+pub mod Inside
+pub mod Syncing

@@ -1,0 +1,15 @@
+//! Store: a log-structured store over a disk. Each call is a step of the abstract store, from a
+//! state for which the store was good to one for which it is.
+#![tactic(auto)]
+
+mod closing;
+mod freezing;
+mod pinning;
+mod refused;
+mod store;
+mod syncing;
+mod telling;
+
+pub use closing::OpenRefusal;
+pub use lsm_model::StoreError;
+pub use store::Store;
