@@ -1,2 +1,9 @@
+pub mod AskLemmas
 pub mod ByNumber
 pub mod HandedBack
+pub mod LookLemmas
+pub mod NewestLemmas
+pub mod Ranges
+pub mod ReadLemmas
+pub mod SearchLemmas
+pub mod TableLemmas

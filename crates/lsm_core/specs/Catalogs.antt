@@ -1,5 +1,5 @@
 -- What is seen of a catalog's parts, and what they keep.
-use Rattle.std.specs.Prelude.{◌≡◌, ℕ, ◌≤◌, List, [], map, All, None}
+use Rattle.std.specs.Prelude.{◌≡◌, ℕ, ◌≤◌, List, [], map, length, All, Some, None}
 use Rattle.std.specs.Ordering.{nat_cmp}
 use Rattle.std.specs.FinMap as finmap
 use Rattle.lsm_disk.specs.Viewed.{Viewed}
@@ -19,10 +19,15 @@ Numbered = ℕ × Opened
 abbrev pub views_of : List Numbered → finmap.FinMap nat_cmp Viewed
 views_of tables = finmap.from_entries (map (λ (table : Numbered). (table.0, table.1.viewed)) tables)
 
--- the table says of itself the number by which it is kept, and the blocks that are kept for it are
--- its own
+-- a view that tells bytes tells all of them
+pub record IsWholeView (view : Viewed) : Type 0 where
+  pub whole : (text : List ℕ) → view.bytes ≡ Some text → length text ≡ view.len
+
+-- The table says of itself the number by which it is kept, its view tells all its bytes, if it
+-- tells any, and the blocks that are kept for it are its own.
 pub record IsKeptTable (blocks : Blocks) (table : Numbered) : Type 0 where
   pub number : table.1.properties.number ≡ table.0
+  pub whole : IsWholeView table.1.viewed
   pub blocks_are : AreBlocksOf table.1 blocks
 
 -- so are all

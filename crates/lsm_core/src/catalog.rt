@@ -1,13 +1,24 @@
 //! The catalog of a store.
-ghost use Rattle.std.specs.Prelude.{◌≡◌, if◌then◌else◌};
+ghost use Rattle.std.specs.Prelude.{◌≡◌, ◌==◌, if◌then◌else◌};
+ghost use Rattle.std.specs.FinMap as finmap;
+ghost use Rattle.lsm_version.specs.Orders.{AreLevels};
+ghost use Rattle.lsm_core.specs.Looking.{AreOpened};
 ghost use Rattle.lsm_core.specs.Closing.{HasHandedBack};
+ghost use Rattle.lsm_core.specs.Reading.{Reads, seen_of};
+ghost use Rattle.lsm_core.specs.Searching.{FindsNewest, looked_at};
 ghost use Rattle.lsm_refine.specs.Calls.{is_own_kept};
 ghost use Rattle.lsm_refine.specs.Caused.{kept_pin_of, unpinned};
 
+use crate::looking::{Tables, open_looked};
 use crate::pins::{Pin, has_own};
+use crate::searching::search;
 use crate::tables::{OpenTables, close_all};
 use lsm_disk::{Disk, View};
+use lsm_model::StoreError;
+use lsm_names::Folder;
+use lsm_rows::Row;
 use lsm_version::Version;
+use std::alloc::Global;
 use std::marker::Model;
 
 /// What a store keeps of itself beside its disk, its last log, its manifest and its rows in memory:
@@ -56,6 +67,13 @@ impl<V: View> Catalog<V> {
         true
     }
 
+    /// Whether no table is live.
+    pub fn has_no_table(&self) -> bool
+        ensures { result ≡ (finmap.len self.now.version == 0) }
+    {
+        self.version.len() == 0
+    }
+
     /// How often the deletion of files is disabled.
     pub fn disables(&self) -> u32
         ensures { result ≡ self.now.disables }
@@ -69,6 +87,43 @@ impl<V: View> Catalog<V> {
     {
         self.disables = count;
     }
+}
+
+/// The newest row that the live tables have of a key, as [`search`] finds it.
+pub fn find_row<D: Disk>(
+    alloc: Global,
+    disk: &mut D,
+    home: &Folder,
+    catalog: &mut Catalog<D::View>,
+    key: &[u8],
+) -> Result<Option<Row>, StoreError>
+    ensures { Reads (FindsNewest catalog.old.version key.now) (seen_of (D.seen disk.old) home.now catalog.old)
+        (seen_of (D.seen disk.new) home.now catalog.new) result }
+{
+    search(
+        alloc,
+        disk,
+        home,
+        &catalog.version,
+        &mut catalog.tables,
+        key,
+    )
+}
+
+/// Opens the live tables that may have a key, each with a view of its own. Where it is refused,
+/// none of them stays open.
+pub fn open_tables<D: Disk>(
+    alloc: Global,
+    disk: &mut D,
+    home: &Folder,
+    catalog: &Catalog<D::View>,
+    key: &[u8],
+) -> Result<Tables<D::View>, StoreError>
+    ensures { Reads (λ rows tables. AreLevels catalog.now.version → AreOpened rows (looked_at catalog.now.version key.now)
+        tables)
+        (seen_of (D.seen disk.old) home.now catalog.now) (seen_of (D.seen disk.new) home.now catalog.now) result }
+{
+    open_looked(alloc, disk, home, &catalog.version, key)
 }
 
 /// Ends a catalog: the view of each open table goes to the disk's `close`.

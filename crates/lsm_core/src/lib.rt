@@ -1,11 +1,16 @@
 //! Catalog: what a store keeps of itself beside its disk, its last log, its manifest and its rows
-//! in memory.
+//! in memory, and readings of its tables.
 #![tactic(auto)]
 
 mod catalog;
+mod looking;
+mod meeting;
+mod opening;
 mod pins;
+mod searching;
 mod tables;
 
-pub use catalog::{Catalog, close_tables};
+pub use catalog::{Catalog, close_tables, find_row, open_tables};
+pub use looking::{Tables, close_looked, look};
 pub use pins::{Job, Pin};
 pub use tables::OpenTables;

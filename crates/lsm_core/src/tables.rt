@@ -1,9 +1,15 @@
 //! The tables that are open, and the blocks of them that are kept.
+ghost use Rattle.std.specs.Prelude.{◌≡◌, None, true, is_some, option_map, OnOk, OnErr, IfErr};
+ghost use Rattle.std.specs.FinMap as finmap;
+ghost use Rattle.lsm_core.specs.Catalogs.{IsWholeView};
 ghost use Rattle.lsm_core.specs.Closing.{HasHandedBack};
+ghost use Rattle.lsm_core.specs.Reading.{LooksInto};
 
-use lsm_cache::BlockCache;
+use lsm_cache::{BlockCache, cached_get};
 use lsm_disk::{Disk, View};
-use lsm_table::Table;
+use lsm_rows::Row;
+use lsm_table::{Table, TableFault};
+use std::alloc::{AllocFailed, Global};
 use std::collections::BTreeMap;
 use std::marker::Model;
 
@@ -29,6 +35,59 @@ impl<V: View> Model for OpenTables<V> {
     ghost view = { λ t. views_of t.tables.entries };
 
     ghost invariant = { λ t. AreKeptTables t.tables.entries t.blocks };
+}
+
+impl<V: View> OpenTables<V> {
+    /// Whether the table of this number is open.
+    pub(crate) fn is_open(&self, number: u64) -> bool
+        ensures { result ≡ is_some (finmap.get self.now number) }
+    {
+        self.tables.contains_key(&number)
+    }
+
+    /// Keeps an open table by the number that it says of itself. Where memory is wanting it hands
+    /// the view back.
+    pub(crate) fn keep(&mut self, table: Table<V>) -> Result<(), V>
+        requires free { finmap.get self.old table.properties.number ≡ None }
+        requires whole { IsWholeView table.viewed }
+        ensures ok { OnOk result (self.new ≡ finmap.insert self.old table.properties.number table.viewed) }
+        ensures err { OnErr result (self.new ≡ self.old) }
+        ensures handed_back { IfErr result (λ view. V.viewed view ≡ table.viewed) }
+    {
+        let number = table.properties().number;
+        self.blocks.forget(number);
+        match self.tables.insert(number, table) {
+            Ok(_) => Ok(()),
+            Err(AllocFailed { value: (_, table) }) => Err(table.into_view()),
+        }
+    }
+
+    /// The newest row that the open table of this number has of a key.
+    pub(crate) fn get(
+        &mut self,
+        alloc: Global,
+        number: u64,
+        key: &[u8],
+    ) -> Result<Option<Row>, TableFault>
+        requires is_open { is_some (finmap.get self.old number) ≡ true }
+        ensures { LooksInto number key.now self.old self.new result }
+    {
+        match self.tables.get_mut(&number) {
+            Some(table) => cached_get(alloc, &mut self.blocks, table, key),
+            None => Ok(None),
+        }
+    }
+
+    /// Takes the table of this number out, and hands its view back.
+    pub(crate) fn take(&mut self, number: u64) -> Option<V>
+        ensures view { option_map V.viewed result ≡ finmap.get self.old number }
+        ensures rest { self.new ≡ finmap.remove self.old number }
+    {
+        match self.tables.remove(&number) {
+            Some(table) => Some(table.into_view()),
+            None => None,
+        }
+    }
 }
 
 /// Hands the view of each table to the disk's `close`.

@@ -143,8 +143,10 @@ next_free v s first next is good = record {
         rows = is.reads.rows;
         tables = is.reads.tables;
         order = record {
+          levels = is.reads.order.levels;
           leveled = is.reads.order.leveled;
           listed = is.reads.order.listed;
+          distinct = is.reads.order.distinct;
           frozen = is.reads.order.frozen;
           last = is.reads.order.last;
         };

@@ -73,7 +73,14 @@ module _ (v : Shown) (s : State) (good : Good v s) (run : IsRunning (state_of go
         reads = record {
           rows = run.parts.rows;
           tables = left.tables;
-          order = record { leveled = order.leveled; listed = order.listed; frozen = order.frozen; last = order.last };
+          order = record {
+            levels = order.levels;
+            leveled = order.leveled;
+            listed = order.listed;
+            distinct = order.distinct;
+            frozen = order.frozen;
+            last = order.last;
+          };
           shown = running_shown (state_of good.story) v s run;
           active = record { same = active.same; newest_is = active.newest_is };
         };

@@ -1,10 +1,11 @@
 -- What readings of a good store go through shows its accepted batches.
-use Rattle.std.specs.Prelude.{◌≡◌, ℕ, ◌+◌, ◌-◌, ◌<◌, ◌≤◌, List, [], ◌∷◌, ◌++◌, take, drop, length, All, Option, Some, None}
+use Rattle.std.specs.Prelude.{◌≡◌, ℕ, ◌+◌, ◌-◌, ◌<◌, ◌≤◌, nat_eq, List, [], ◌∷◌, ◌++◌, take, drop, length, All, Option, Some, None}
 use Rattle.std.proofs.Common.{refl, sym, ap, subst, ◌∙◌, arith, append_assoc}
 use Rattle.std.proofs.lemmas.List.{length-append, take-append-drop}
 use Rattle.std.proofs.lemmas.List.Elements.{All-nil, All-cons, All-append, All-weaker}
 use Rattle.std.proofs.lemmas.List.Sorted.{All-permutation}
 use Rattle.std.proofs.Math.Seq.{drop-append_seam, take-append_seam}
+use Rattle.std.specs.List.{IsDistinct}
 use Rattle.std.specs.FinMap as finmap
 use Rattle.lsm_rows.specs.declared.operations.Op.{Op}
 use Rattle.lsm_rows.specs.declared.rows.Row.{Row}
@@ -17,9 +18,11 @@ use Rattle.lsm_disk.specs.State as disk
 use Rattle.lsm_disk.specs.State.{state_of}
 use Rattle.lsm_disk.specs.declared.calls.Halt.{Halt}
 use Rattle.lsm_version.specs.Levels.{Tables, IsLeveled}
+use Rattle.lsm_version.specs.Orders.{AreLevels}
 use Rattle.lsm_folder.specs.Manifests.{tables_after, last_after}
-use Rattle.lsm_folder.specs.Needed.{IsAsListed}
+use Rattle.lsm_folder.specs.Needed.{IsAsListed, sequences}
 use Rattle.lsm_folder.specs.Parts.{rows_of_tables}
+use Rattle.lsm_folder.proofs.LevelLemmas.{versions_have_seven_levels}
 use Rattle.lsm_model.specs.declared.states.State.{State}
 use Rattle.lsm_model.specs.States.{contents_now, active_batches}
 use Rattle.lsm_refine.specs.Kept.{Shown}
@@ -40,7 +43,7 @@ rows_both first (ops ∷ one) two =
 
 -- ---- the sequences of rows
 
-abbrev IsWithin : ℕ → ℕ → Row → Type 0
+abbrev pub IsWithin : ℕ → ℕ → Row → Type 0
 IsWithin low high row = (low ≤ row.sequence) × (row.sequence < high)
 
 batch_within : (first : ℕ) (ops : List Op) → All (IsWithin first (first + length ops)) (batch_rows first ops)
@@ -51,7 +54,7 @@ batch_within first (op ∷ ops) =
     (All-weaker (IsWithin (first + 1) (first + 1 + length ops)) (IsWithin first (first + length (op ∷ ops)))
     (λ row is. (omega (arith, is.0), omega (arith, is.1))) (batch_rows (first + 1) ops) (batch_within (first + 1) ops))
 
-rows_within : (first : ℕ) (batches : List (List Op)) → All (IsWithin first (sequence_after first batches)) (rows_of first batches)
+pub rows_within : (first : ℕ) (batches : List (List Op)) → All (IsWithin first (sequence_after first batches)) (rows_of first batches)
 rows_within first [] = All-nil (IsWithin first first)
 rows_within first (ops ∷ batches) =
     let next : ℕ = first + length ops in
@@ -152,10 +155,13 @@ module _ (d : disk.State) (v : Shown) (s : State) (is : IsRunning d v s) where
 
   pub running_order : AreInOrder v.kept parts.rows (first_active s)
   running_order = record {
+    levels = subst AreLevels (sym is.sane.edits.version) (versions_have_seven_levels parts.edits is.sane.edits.are);
     leveled = subst (λ (tables : Tables). IsLeveled tables parts.rows) (sym is.sane.edits.version) is.sane.lawful.leveled;
     listed = λ number placed found.
         subst (λ (last : ℕ). IsAsListed placed.info (parts.rows number) last) (sym is.sane.edits.last)
         (is.sane.lawful.listed number placed (ap (λ (tables : Tables). finmap.get tables number) (sym is.sane.edits.version) ∙ found));
+    distinct = subst (λ (tables : Tables). IsDistinct nat_eq (sequences (rows_of_tables tables parts.rows))) (sym is.sane.edits.version)
+        is.sane.lawful.distinct;
     frozen =
         All-weaker (IsWithin (first_logged parts) (first_in_last parts))
         (λ (row : Row). (v.kept.last < row.sequence) × (row.sequence < first_active s))

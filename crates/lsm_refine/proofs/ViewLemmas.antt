@@ -115,7 +115,14 @@ module _ (d : disk.State) (v : Shown) (views : finmap.FinMap nat_cmp Viewed) (te
   reads s is = record {
     rows = is.rows;
     tables = tables is.rows is.tables;
-    order = record { leveled = is.order.leveled; listed = is.order.listed; frozen = is.order.frozen; last = is.order.last };
+    order = record {
+      levels = is.order.levels;
+      leveled = is.order.leveled;
+      listed = is.order.listed;
+      distinct = is.order.distinct;
+      frozen = is.order.frozen;
+      last = is.order.last;
+    };
     shown = is.shown;
     active = is.active;
   }

@@ -1,5 +1,6 @@
 -- When a store is good for a state of the abstract store.
-use Rattle.std.specs.Prelude.{◌≡◌, ◌⊎◌, ℕ, ◌+◌, ◌-◌, ◌<◌, List, ◌++◌, take, length, All, Option, Some, None}
+use Rattle.std.specs.Prelude.{◌≡◌, ◌⊎◌, ℕ, ◌+◌, ◌-◌, ◌<◌, nat_eq, List, ◌++◌, take, length, All, Option, Some, None}
+use Rattle.std.specs.List.{IsDistinct}
 use Rattle.std.specs.Option.{option_map}
 use Rattle.std.specs.Ordering.{nat_cmp}
 use Rattle.std.specs.FinMap as finmap
@@ -15,7 +16,8 @@ use Rattle.lsm_disk.specs.Dest.{Begun, path_in}
 use Rattle.lsm_disk.specs.declared.calls.Halt.{Halt}
 use Rattle.lsm_version.specs.declared.tables.Placed.{Placed}
 use Rattle.lsm_version.specs.Levels.{IsLeveled}
-use Rattle.lsm_folder.specs.Needed.{IsAsListed}
+use Rattle.lsm_version.specs.Orders.{AreLevels}
+use Rattle.lsm_folder.specs.Needed.{IsAsListed, sequences}
 use Rattle.lsm_folder.specs.Parts.{rows_of_tables}
 use Rattle.lsm_model.specs.declared.states.State.{State}
 use Rattle.lsm_model.specs.States.{contents_now, last_of, active_batches}
@@ -48,12 +50,15 @@ rows_kept kept rows = rows_of_tables kept.version rows ++ (kept.frozen ++ kept.a
 abbrev pub first_active : State → ℕ
 first_active s = sequence_after s.began (take (length s.accepted - s.active) s.accepted) + 1
 
--- A reading may stop at the first row of a key that it meets: levels are in order, tables are as the version lists them, and
--- their rows come before the frozen ones, which come before the first active sequence.
+-- A reading may stop at the first level at which it meets a row of the key: tables stand at the seven levels, these are in
+-- order, tables are as the version lists them, no two of their rows have one sequence, and they come before the frozen ones,
+-- which come before the first active sequence.
 pub record AreInOrder (kept : Kept) (rows : ℕ → List Row) (first : ℕ) : Type 0 where
+  pub levels : AreLevels kept.version
   pub leveled : IsLeveled kept.version rows
   pub listed : (number : ℕ) (placed : Placed) → finmap.get kept.version number ≡ Some placed
       → IsAsListed placed.info (rows number) kept.last
+  pub distinct : IsDistinct nat_eq (sequences (rows_of_tables kept.version rows))
   pub frozen : All (λ (row : Row). (kept.last < row.sequence) × (row.sequence < first)) kept.frozen
   pub last : kept.last < first
 

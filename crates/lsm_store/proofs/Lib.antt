@@ -2,7 +2,9 @@ pub mod Calls
 pub mod Closes
 pub mod Counting
 pub mod Freezes
+pub mod Gets
 pub mod Logs
+pub mod Probes
 pub mod Syncs
 pub mod Tellings
 pub mod Writes

@@ -2,4 +2,5 @@ pub mod Answering
 pub mod Closing
 pub mod Fields
 pub mod Inside
+pub mod Reading
 pub mod Syncing

@@ -5,11 +5,15 @@
 mod closing;
 mod freezing;
 mod pinning;
+mod probing;
+mod reading;
 mod refused;
 mod store;
 mod syncing;
 mod telling;
 
 pub use closing::OpenRefusal;
+pub use lsm_core::{Tables, look};
 pub use lsm_model::StoreError;
+pub use probing::Probe;
 pub use store::Store;

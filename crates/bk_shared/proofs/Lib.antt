@@ -1,0 +1,6 @@
+mod Clashes
+mod Counts
+mod Firsts
+mod Names
+mod Steps
+mod TwoMetas
