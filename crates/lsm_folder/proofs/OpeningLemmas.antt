@@ -87,7 +87,7 @@ no_index_by contents none (Some es) block (Some all) is =
     absurd (none es (record { block = block_only contents es block; places = all_tell es all is }))
 
 -- contents that are no index tell none
-no_index : (contents : List ℕ) → ((es : List Entry) → IsIndexText contents es → ⊥) → index_of contents ≡ None
+pub no_index : (contents : List ℕ) → ((es : List Entry) → IsIndexText contents es → ⊥) → index_of contents ≡ None
 unfolding index_of
 no_index contents none = no_index_by contents none (block_of contents) refl (told_by_block (block_of contents)) refl
 
@@ -95,7 +95,7 @@ pub record HasIndex (contents : List ℕ) : Type 0 where
   pub all : List Told
   pub is : index_of contents ≡ Some all
 
-index_there : (contents : List ℕ) (es : List Entry) → IsIndexText contents es → HasIndex contents
+pub index_there : (contents : List ℕ) (es : List Entry) → IsIndexText contents es → HasIndex contents
 unfolding index_of
 index_there contents es is =
     let told = told_all es is.places in

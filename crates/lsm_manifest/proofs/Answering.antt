@@ -1,15 +1,15 @@
 -- Which answers come where, told of the state before the whole.
-use Rattle.std.specs.Prelude.{◌≡◌, ◌≢◌, ℕ, cond, List, [], ◌∷◌, length, is_some, Option, Some, None, IfSome, Result, Ok, Err}
+use Rattle.std.specs.Prelude.{◌≡◌, ◌≢◌, ℕ, cond, List, [], ◌∷◌, length, is_some, Option, Some, None, option_map, IfSome, Result, Ok, Err}
 use Rattle.std.proofs.Common.{⊎_elim, refl, sym, ap, subst, ◌∙◌}
 use Rattle.lsm_names.specs.FileNames.{IsFileName}
 use Rattle.lsm_names.specs.declared.file_names.FileName.TheVariants.{Manifest}
 use Rattle.lsm_names.specs.Paths.{parent_of}
 use Rattle.std.specs.FinMap as map
 use Rattle.lsm_disk.specs.Names.{Node, File_node, Names, stands, is_folder, is_folder_node}
-use Rattle.lsm_disk.specs.State.{State, Story, Change, Created, Named, Appended, Synced, Names_synced, Idle, after, state_of, names_now, names_synced}
+use Rattle.lsm_disk.specs.State.{State, Story, Change, Created, Named, Appended, Synced, Names_synced, Idle, after, state_of, names_now, names_synced, renamed_by}
 use Rattle.lsm_disk.specs.Goes.{Went}
 use Rattle.lsm_disk.specs.Kept.{IsFileNow}
-use Rattle.lsm_disk.specs.Answers.{Makes, RefusesBy}
+use Rattle.lsm_disk.specs.Answers.{Makes, RefusesBy, pushed}
 use Rattle.lsm_disk.specs.Refusals.{no_room, no_rename, no_move_in, or_else}
 use Rattle.lsm_disk.specs.declared.calls.DiskError.{DiskError}
 use Rattle.lsm_disk.specs.declared.calls.DiskError.TheVariants.{Fault, NotThere, Exists, NoLinks, NotEmpty, Short, NoMemory}
@@ -20,6 +20,7 @@ use Rattle.lsm_disk.proofs.Now.{stands_past_file}
 use Rattle.lsm_disk.proofs.Tree.{room_free, free_named}
 use Rattle.lsm_disk.proofs.Runs.{state_push, went_weaker, went_kept}
 use Rattle.lsm_publish.specs.Publishing.{Writes, AnswersBy, no_place, no_publishing, written}
+use Rattle.lsm_publish.proofs.Answering.{answers_why}
 use Rattle.lsm_manifest.specs.Installing.{Anything, no_installing, current_path, manifest_path, temporary_path}
 use Rattle.lsm_manifest.proofs.Names.{new_apart_temporary}
 
@@ -144,6 +145,22 @@ module _ (temporary path : List ℕ) where
   switch_answers (Some story) o2 result makes is =
       subst (λ (o : Option DiskError). AnswersBy {T = Unit {0}} o result) (ap (no_rename temporary path) (state_push story (names_synced (state_of story))) ∙ same_rename (state_of story))
       (subst (λ (o : Option Story). Told (no_rename temporary path) o result) makes is)
+
+  -- the rename behind it was refused
+  pub rename_answers : (o1 o2 : Option Story) (r : DiskRefusal) (why : DiskError) → r.why ≡ why → Makes o1 names_synced o2
+      → IfSome o2 (λ x. RefusesBy (no_rename temporary path (state_of x)) why) → Told (no_rename temporary path) o1 (Err r)
+  rename_answers o1 o2 r why is makes by = switch_answers o1 o2 (Err r) makes (answers_why
+      (no_rename temporary path) o2 r why is by)
+
+  -- the last sync of names was refused
+  pub last_answers : (o1 o2 o3 : Option Story) (r : DiskRefusal) (why : DiskError) → r.why ≡ why → Makes o1 names_synced o2
+      → Makes o2 (renamed_by temporary path) o3 → IfSome o3 (λ x. RefusesBy None why) → Told (no_rename temporary path) o1
+      (Err r)
+  last_answers None o2 o3 r why is synced moved by = tt
+  last_answers (Some story) o2 o3 r why is synced moved by =
+      let refuses : RefusesBy None why = subst (λ (o : Option Story). IfSome o (λ x. RefusesBy None why))
+      (moved ∙ ap (option_map (pushed (renamed_by temporary path))) synced) by in
+      by_chance (no_rename temporary path (state_of story)) r.why (subst (RefusesBy None) (sym is) refuses)
 
 -- ---- the whole
 

@@ -1,6 +1,6 @@
 -- What each part of an installing leaves.
 use Rattle.std.specs.Prelude.{◌≡◌, ◌≢◌, ℕ, ◌<◌, List, [], ◌∷◌, length, Option, Some, Result, Ok, Err}
-use Rattle.std.proofs.Common.{⊎_elim, inl, inr, sym, ap, subst, ◌∙◌, arith}
+use Rattle.std.proofs.Common.{⊎_elim, inl, inr, refl, sym, ap, subst, ◌∙◌, arith}
 use Rattle.std.proofs.lemmas.List.Elements.{All-nil, All-cons}
 use Rattle.lsm_names.specs.FileNames.{IsFileName}
 use Rattle.lsm_names.specs.declared.file_names.FileName.TheVariants.{Manifest}
@@ -11,6 +11,7 @@ use Rattle.lsm_disk.specs.Goes.{Went}
 use Rattle.lsm_disk.specs.Kept.{IsFileNow, IsKeptFile}
 use Rattle.lsm_disk.specs.Halts.{IsAmong}
 use Rattle.lsm_disk.specs.Answers.{LeftBy}
+use Rattle.lsm_disk.specs.Tree.{IsLawful}
 use Rattle.lsm_disk.specs.declared.calls.Halt.{Halt}
 use Rattle.lsm_disk.specs.declared.calls.DiskCall.{DiskCall}
 use Rattle.lsm_disk.specs.declared.calls.DiskCall.TheVariants as call
@@ -22,12 +23,14 @@ use Rattle.lsm_disk.proofs.Runs.{left_cases, went_weaker, went_then, went_wider,
 use Rattle.lsm_publish.specs.Publishing.{Old, StillHas, IsOther, Writes, Switches, IsReady, IsSwitching, IsPublished, SwitchLeft, written}
 use Rattle.lsm_publish.proofs.Olds.{still_spared, still_image, other_new, within}
 use Rattle.lsm_version.specs.declared.edits.Edit.{Edit}
+use Rattle.lsm_version.specs.Edits.{IsEdit}
 use Rattle.lsm_manifest.specs.Texts.{IsTaken, manifest_text}
 use Rattle.lsm_manifest.specs.Standing.{Stands}
-use Rattle.lsm_manifest.specs.Installing.{Before, StillBefore, ShowsBefore, IsApart, NamesOldOrNew, Installs, Leaves, NewLeft, FillLeft, CurrentLeft, LeadsNow, Anything, LeadsEither, HasLed, new_calls, current_path, manifest_path, temporary_path, current_text}
+use Rattle.lsm_manifest.specs.Installing.{Before, StillBefore, ShowsBefore, IsApart, IsOnly, NamesOldOrNew, Installs, Leaves, NewLeft, FillLeft, CurrentLeft, LeadsNow, Anything, LeadsEither, HasLed, new_calls, current_path, manifest_path, temporary_path, current_text}
 use Rattle.lsm_manifest.proofs.Names.{new_not_current, temporary_is_not_current, current_apart_new, current_apart_temporary, new_apart_temporary}
 use Rattle.lsm_manifest.proofs.Carrying.{writes_spare_old, now_written, switch_spares_old, new_installs, temporary_installs, switch_installs}
 use Rattle.lsm_manifest.proofs.Filling.{Unknown}
+use Rattle.lsm_manifest.proofs.Settling.{only_next, only_written}
 
 -- each of these calls has this path
 pub among_new : (at : Halt) (path : List ℕ) → IsAmong at (new_calls path) → at.path ≡ path
@@ -125,7 +128,8 @@ module _ (dir : List ℕ) (number : ℕ) (edit : Edit) (before : Before) (is : I
 
     -- ---- the new manifest
 
-    module _ (story : Story) (o2 : Option Story) (still : Still (state_of story)) (begins : first ≡ length (state_of story).files) where
+    module _ (story : Story) (o2 : Option Story) (still : Still (state_of story)) (lawful : IsLawful (state_of story))
+        (begins : first ≡ length (state_of story).files) where
       others : IsOther before.current first × IsOther before.manifest first
       others = (
         subst (λ (n : ℕ). IsOther before.current n) (sym begins) (other_new cur before.current (state_of story) still.current),
@@ -152,11 +156,19 @@ module _ (dir : List ℕ) (number : ℕ) (edit : Edit) (before : Before) (is : I
         record Made (s : State) : Type 0 where
           pub before_is : Still s
           pub now : IsFileNow s new first (written text)
+          pub only : IsOnly s new first
 
-        made : Went story o2 Q P (λ s. IsFileNow s new first (written text) × Still s)
-        made = carried_new (λ s. IsFileNow s new first (written text)) wrote
+        only_begins : IsOnly (state_of story) new first
+        only_begins = subst (λ (n : ℕ). IsOnly (state_of story) new n) (sym begins) (only_next (state_of story) new lawful)
 
-        module _ (mid : Story) (now : IsFileNow (state_of mid) new first (written text)) (stays : Still (state_of mid)) where
+        made : Went story o2 Q P (λ s. (IsFileNow s new first (written text) × IsOnly s new first) × Still s)
+        made = carried_new (λ s. IsFileNow s new first (written text) × IsOnly s new first)
+            (went_kept Anything (λ s. IsOnly s new first) (λ s c is only. only_written s new first new first c
+            (inl refl) is only) (λ s t only image any. tt)
+            (λ s. IsFileNow s new first (written text)) only_begins wrote)
+
+        module _ (mid : Story) (now : IsFileNow (state_of mid) new first (written text)) (only : IsOnly
+            (state_of mid) new first) (stays : Still (state_of mid)) where
           abbrev id : ℕ
           id = length (state_of mid).files
 
@@ -170,27 +182,39 @@ module _ (dir : List ℕ) (number : ℕ) (edit : Edit) (before : Before) (is : I
               manifest = still_spared before.path before.manifest s c i.before_is.manifest (writes_spare_old before.path temporary id before.manifest c apart.temporary (other_new before.path before.manifest (state_of mid) stays.manifest) w);
             };
             now = now_written s new first (written text) temporary id c (new_apart_temporary dir number is) (λ same. absurd (omega (arith, lower, same))) w i.now;
+            only = only_written s new first temporary id c (inr (λ same. let lt = within s.files first
+                (written text) i.now.file in absurd (omega (arith, lt, same)))) w i.only;
           }
 
           carried_temporary : (J : State → Type 0) → Went mid o3 (Writes temporary id) Anything J → Went mid o3 Q P (λ s. J s × Made s)
           carried_temporary J w = went_wider (Writes temporary id) Q P P (λ c. temporary_installs dir number first id c (omega (arith, lower))) (λ s t x. x)
-              (went_kept P Made keep_temporary (λ s t i image x. inl (shows_before s i.before_is t image)) J (record { before_is = stays; now = now }) w)
+              (went_kept P Made keep_temporary (λ s t i image x. inl (shows_before s i.before_is t image)) J
+              (record { before_is = stays; now = now; only = only }) w)
 
         pub refused_temporary : (r : DiskRefusal) → IsAmong r.at (new_calls temporary) → ((mid : Story) → o2 ≡ Some mid → Went mid o3 (Writes temporary (length (state_of mid).files)) Anything Unknown) → Went story o3 Q P (Left (Err r))
         refused_temporary r at next = went_then made (λ mid here m.
             went_weaker (λ s. Unknown s × Made s) (Left (Err r)) (λ s p. left_temporary r (among_new r.at temporary at) s p.1.now p.1.before_is)
-            (carried_temporary mid m.0 m.1 Unknown (next mid here)))
+            (carried_temporary mid m.0.0 m.0.1 m.1 Unknown (next mid here)))
 
         -- both are filled, the temporary file of this number
         record Filled (s : State) : Type 0 where
           pub k : ℕ
           pub temporary_now : IsFileNow s temporary k (written bytes)
           pub is_made : Made s
+          pub apart_is : k ≢ first
 
         filled : ((mid : Story) → o2 ≡ Some mid → Went mid o3 (Writes temporary (length (state_of mid).files)) Anything (λ s. IsFileNow s temporary (length (state_of mid).files) (written bytes))) → Went story o3 Q P Filled
         filled next = went_then made (λ mid here m.
-            went_weaker (λ s. IsFileNow s temporary (length (state_of mid).files) (written bytes) × Made s) Filled (λ s p. record { k = length (state_of mid).files; temporary_now = p.0; is_made = p.1 })
-            (carried_temporary mid m.0 m.1 (λ s. IsFileNow s temporary (length (state_of mid).files) (written bytes)) (next mid here)))
+            went_weaker (λ s. IsFileNow s temporary (length (state_of mid).files) (written bytes) × Made s) Filled
+            (λ s p. record {
+              k = length (state_of mid).files;
+              temporary_now = p.0;
+              is_made = p.1;
+              apart_is = λ same. let lt = within (state_of mid).files first (written text) m.0.0.file in absurd (omega
+                  (arith, lt, same));
+            })
+            (carried_temporary mid m.0.0 m.0.1 m.1 (λ s. IsFileNow s temporary (length (state_of mid).files) (written bytes))
+            (next mid here)))
 
         -- ---- the switch
 
@@ -204,13 +228,13 @@ module _ (dir : List ℕ) (number : ℕ) (edit : Edit) (before : Before) (is : I
           shows_switch : (s : State) (t : Tree) → Manifest_still s → IsImage s t → LeadsEither cur new before.current bytes text s t → P s t
           shows_switch s t i image x = ⊎_elim (λ was. inl (was, still_image before.path before.manifest s i t image)) (λ now. inr (record { current = now.0; manifest = now.1 })) x
 
-          stands : (s : State) → IsKeptFile s new first (written text) → Stands s new (edit ∷ [])
-          stands s kept = record { id = first; kept = kept; each = All-cons IsTaken edit [] taken (All-nil IsTaken) }
+          abbrev stands : (s : State) → IsKeptFile s new first (written text) → Stands s new (edit ∷ [])
+          stands s kept = record { id = first; kept = kept; each = All-cons IsEdit edit [] taken.grammar (All-nil IsEdit) }
 
           fits : (k : ℕ) (s : State) → HasLed {T = Unit {0}} temporary cur new before.current k bytes first text result s × Manifest_still s → Left result s
           fits k s p = of_result result p where
             of_result : (r : Result (Unit {0}) DiskRefusal) → HasLed {T = Unit {0}} temporary cur new before.current k bytes first text r s × Manifest_still s → Left r s
-            of_result (Ok value) p = (record { stands = stands s p.0.1; id = k; current = p.0.0 }, p.1)
+            of_result (Ok value) p = (record { stands = stands s p.0.1; id = k; current = p.0.0; settled = p.0.2 }, p.1)
             of_result (Err r) p = ⊎_elim
                 (λ q. left_temporary r q.0 s q.2 (record { current = q.1; manifest = p.1 }))
                 (λ q. (
@@ -226,10 +250,11 @@ module _ (dir : List ℕ) (number : ℕ) (edit : Edit) (before : Before) (is : I
 
           pub then_led : ((mid : Story) → o2 ≡ Some mid → Went mid o3 (Writes temporary (length (state_of mid).files)) Anything (λ s. IsFileNow s temporary (length (state_of mid).files) (written bytes)))
               → ((mid : Story) (k : ℕ) → o3 ≡ Some mid → StillHas cur before.current (state_of mid) → IsFileNow (state_of mid) temporary k (written bytes) → IsFileNow (state_of mid) new first (written text)
+              → IsOnly (state_of mid) new first → k ≢ first
               → Went mid o4 (Switches temporary cur) (LeadsEither cur new before.current bytes text) (HasLed {T = Unit {0}} temporary cur new before.current k bytes first text result))
               → Went story o4 Q P (Left result)
           then_led next led = went_then (filled next) (λ mid here f.
               went_weaker (λ s. HasLed {T = Unit {0}} temporary cur new before.current f.k bytes first text result s × Manifest_still s) (Left result) (fits f.k)
               (went_wider (Switches temporary cur) Q P P (λ c. switch_installs dir number first c) (λ s t x. x)
               (went_kept P Manifest_still keep_switch shows_switch (HasLed {T = Unit {0}} temporary cur new before.current f.k bytes first text result) f.is_made.before_is.manifest
-              (led mid f.k here f.is_made.before_is.current f.temporary_now f.is_made.now))))
+              (led mid f.k here f.is_made.before_is.current f.temporary_now f.is_made.now f.is_made.only f.apart_is))))

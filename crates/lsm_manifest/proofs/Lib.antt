@@ -9,5 +9,6 @@ pub mod Leading
 pub mod Names
 pub mod Placed
 pub mod Read
+pub mod Settling
 pub mod Steps
 pub mod Texts

@@ -17,6 +17,7 @@ use Rattle.lsm_disk.proofs.Kept.{kept_appended, kept_synced, appends_in, syncs_i
 use Rattle.lsm_disk.proofs.Runs.{went_start, went_weaker, went_ok, went_err, went_append_err}
 use Rattle.lsm_publish.specs.Publishing.{written}
 use Rattle.lsm_version.specs.declared.edits.Edit.{Edit}
+use Rattle.lsm_version.specs.Edits.{IsEdit}
 use Rattle.lsm_manifest.specs.Texts.{IsTaken, manifest_text, record_behind}
 use Rattle.lsm_manifest.specs.Standing.{Stands, IsTornManifest, HoldsEither, HasWhole, IsLeft}
 use Rattle.lsm_manifest.proofs.Texts.{text_push}
@@ -101,7 +102,7 @@ module _ (path : List ℕ) (edits : List Edit) (next : Edit) (bytes : List ℕ) 
   longer_stands taken s kept = record {
     id = stands.id;
     kept = subst (λ (l : List ℕ). IsKeptFile s path stands.id (written l)) (sym text_all) kept;
-    each = All-push IsTaken edits next stands.each taken;
+    each = All-push IsEdit edits next stands.each taken.grammar;
   }
 
   module _ (story : Story) {o1 : Option Story} (tells : o1 ≡ Some story) (here : start ≡ state_of story) where

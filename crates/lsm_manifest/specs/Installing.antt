@@ -1,9 +1,10 @@
 -- A new manifest, and the switch of `CURRENT` to it.
-use Rattle.std.specs.Prelude.{◌≡◌, ◌≢◌, ◌⊎◌, ℕ, ◌≤◌, List, [], ◌∷◌, ◌++◌, length, take, Option, Some, Result, Ok, Err}
+use Rattle.std.specs.Prelude.{◌≡◌, ◌≢◌, ◌⊎◌, ℕ, ◌≤◌, List, [], ◌∷◌, ◌++◌, length, take, Option, Some, None, Result, Ok, Err}
 use Rattle.lsm_names.specs.FileNames.{spelled}
 use Rattle.lsm_names.specs.declared.file_names.FileName.TheVariants.{Manifest, Temp, Current}
-use Rattle.lsm_disk.specs.Names.{Moved}
-use Rattle.lsm_disk.specs.State.{State, Change, Created, Named, Appended, Synced, Names_synced, Idle, new_file, longer}
+use Rattle.std.specs.FinMap as map
+use Rattle.lsm_disk.specs.Names.{Moved, File_node}
+use Rattle.lsm_disk.specs.State.{State, Change, Created, Named, Appended, Synced, Names_synced, Idle, new_file, longer, names_now}
 use Rattle.lsm_disk.specs.Images.{Tree, bytes_at}
 use Rattle.lsm_disk.specs.Kept.{IsFileNow, IsKeptFile, OpSpares}
 use Rattle.lsm_disk.specs.Dest.{path_in}
@@ -100,11 +101,22 @@ CurrentLeft dir number old call.Rename why s = LeftBy (StillHas (current_path di
 CurrentLeft dir number old call.SyncNames why s = LeadsNow dir number s
 CurrentLeft dir number old other why s = ⊥
 
--- `CURRENT` names the new manifest for good, and both are whole
+-- no other name leads to the file now
+pub record IsOnly (s : State) (path : List ℕ) (id : ℕ) : Type 0 where
+  pub only : (other : List ℕ) → map.get (names_now s) other ≡ Some (File_node id) → other ≡ path
+
+-- A file has this name alone, the temporary name is free, and there is no operation on names that a crash may undo.
+pub record IsSettled (temporary path : List ℕ) (id : ℕ) (s : State) : Type 0 where
+  pub alone : IsOnly s path id
+  pub gone : map.get (names_now s) temporary ≡ None
+  pub quiet : s.pending ≡ []
+
+-- `CURRENT` names the new manifest for good, both are whole, and the manifest's file has no other name
 pub record IsInstalled (dir : List ℕ) (number : ℕ) (edit : Edit) (s : State) : Type 0 where
   pub stands : Stands s (manifest_path dir number) (edit ∷ [])
   pub id : ℕ
   pub current : IsPublished (current_path dir) id (current_text number) s
+  pub settled : IsSettled (temporary_path dir number) (manifest_path dir number) stands.id s
 
 -- What a refused call left of the making of a file: a fault may have made the change, of an append
 -- a front, and any other refusal has not.
@@ -152,10 +164,11 @@ IsFilled path id bytes (Err r) s = FillLeft path id bytes r.at.call r.why s
 abbrev pub LeadsEither : List ℕ → List ℕ → Old → List ℕ → List ℕ → State → Tree → Type 0
 LeadsEither path other old bytes text s t = ShowsOld path old t ⊎ ((bytes_at t path ≡ Some bytes) × (bytes_at t other ≡ Some text))
 
--- The name leads to the file for good and the other file is kept; or a call was refused, before the
--- switch or in it.
+-- The name leads to the file for good, the other file is kept under one name, and names are sure; or a call was refused,
+-- before the switch or in it.
 abbrev pub HasLed : {T : Type 0} → List ℕ → List ℕ → List ℕ → Old → ℕ → List ℕ → ℕ → List ℕ → Result T DiskRefusal → State → Type 0
-HasLed temporary path other old id bytes k text (Ok value) s = IsPublished path id bytes s × IsKeptFile s other k (written text)
+HasLed temporary path other old id bytes k text (Ok value) s =
+    IsPublished path id bytes s × IsKeptFile s other k (written text) × IsSettled temporary other k s
 HasLed temporary path other old id bytes k text (Err r) s =
     ((r.at.path ≡ temporary) × StillHas path old s × IsFileNow s other k (written text))
     ⊎ (Switched temporary path old id bytes (Err r) s × IsKeptFile s other k (written text))

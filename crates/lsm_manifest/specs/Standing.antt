@@ -10,14 +10,15 @@ use Rattle.lsm_disk.specs.declared.calls.DiskRefusal.{DiskRefusal}
 use Rattle.lsm_publish.specs.Publishing.{written}
 use Rattle.lsm_version.specs.declared.edits.Edit.{Edit}
 use Rattle.lsm_version.specs.EditText.{edit_text}
-use Rattle.lsm_manifest.specs.Texts.{IsTaken, manifest_text, record_behind}
+use Rattle.lsm_version.specs.Edits.{IsEdit}
+use Rattle.lsm_manifest.specs.Texts.{manifest_text, record_behind}
 
 -- A manifest stands: the file at the path outlives each crash, and its bytes, all of them synced,
 -- are the text of these edits.
 pub record Stands (s : State) (path : List ℕ) (edits : List Edit) : Type 0 where
   pub id : ℕ
   pub kept : IsKeptFile s path id (written (manifest_text edits))
-  pub each : All IsTaken edits
+  pub each : All IsEdit edits
 
 -- The same, but that a front of the next edit's record stands behind them.
 pub record IsTornManifest (s : State) (path : List ℕ) (edits : List Edit) (next : Edit) : Type 0 where
@@ -27,7 +28,7 @@ pub record IsTornManifest (s : State) (path : List ℕ) (edits : List Edit) (nex
   pub count : ℕ
   pub text : bytes_of file ≡ manifest_text edits ++ take count (record_behind edits next)
   pub synced : length (manifest_text edits) ≤ length file.synced
-  pub each : All IsTaken edits
+  pub each : All IsEdit edits
 
 -- The records of a text are these edits, or these and the new one; and it ends there, or inside a
 -- torn record.

@@ -1,5 +1,5 @@
 //! The calls of a disk that write a new manifest and switch `CURRENT` to it.
-ghost use Rattle.std.specs.Prelude.{◌≡◌, ◌+◌, ◌≤◌, ◌∷◌, ◌++◌, [], ℕ, List, length, Some, IsTrue, OnOk, IfOk, IfErr};
+ghost use Rattle.std.specs.Prelude.{◌≡◌, ◌≢◌, ◌+◌, ◌≤◌, ◌∷◌, ◌++◌, [], ℕ, List, length, Some, IsTrue, OnOk, IfOk, IfErr};
 ghost use Rattle.lsm_names.specs.FileNames.{IsFileName, spelled};
 ghost use Rattle.lsm_names.specs.Numbers.{is_file_number};
 ghost use Rattle.lsm_names.specs.declared.file_names.FileName.TheVariants as names;
@@ -9,18 +9,18 @@ ghost use Rattle.lsm_disk.specs.Goes.{Went};
 ghost use Rattle.lsm_disk.specs.Halts.{IsAmong, halt_at};
 ghost use Rattle.lsm_disk.specs.Kept.{IsFileNow, OpSpares};
 ghost use Rattle.lsm_disk.specs.Answers.{HasDiskCause};
+ghost use Rattle.lsm_disk.specs.Tree.{TellsLawful};
 ghost use Rattle.lsm_disk.specs.Refusals.{no_room, no_rename};
 ghost use Rattle.lsm_disk.specs.declared.calls.DiskCall.TheVariants as calls;
 ghost use Rattle.lsm_publish.specs.Publishing.{Old, StillHas, Writes, Switches, AnswersAs, SyncsNeedNoMemory, switch_calls, written};
 ghost use Rattle.lsm_version.specs.declared.edits.Edit.{Edit};
 ghost use Rattle.lsm_manifest.specs.Texts.{IsTaken, manifest_text};
-ghost use Rattle.lsm_manifest.specs.Installing.{Before, StillBefore, IsApart, NamesOldOrNew, Installs, Leaves, Anything, IsFilled, LeadsEither, HasLed, new_calls, install_calls, no_installing, current_path, manifest_path, temporary_path, current_text};
+ghost use Rattle.lsm_manifest.specs.Installing.{Before, StillBefore, IsApart, NamesOldOrNew, Installs, Leaves, Anything, IsFilled, IsOnly, LeadsEither, HasLed, new_calls, install_calls, no_installing, current_path, manifest_path, temporary_path, current_text};
 
 use crate::writing::{frame_edit, refusal};
 use lsm_bytes::{Bytes, NoMemory};
 use lsm_disk::{Disk, DiskCall, DiskError, DiskRefusal};
 use lsm_names::{FileName, Path};
-use lsm_publish::switch;
 use lsm_version::Edit;
 use std::alloc::Global;
 
@@ -76,6 +76,7 @@ fn write_new<D: Disk>(disk: &mut D, path: &Path, bytes: &[u8]) -> Result<(), Dis
         (length (state_of story).files) bytes.now result) }
     ensures at { IfErr result (λ r. IsAmong r.at (new_calls path.now)) }
     ensures answer { AnswersAs (no_room path.now) (D.seen disk.old) result }
+    ensures lawful { TellsLawful (D.seen disk.old) }
     ensures memory { SyncsNeedNoMemory result }
     ensures cause { HasDiskCause (D.seen disk.old) (D.seen disk.new) result }
 {
@@ -96,7 +97,7 @@ fn lead<D: Disk>(disk: &mut D, temporary: &Path, path: &Path) -> Result<(), Disk
     ensures went { (story : Story) (old : Old) (id k : ℕ) (bytes other text : List ℕ) → (D.seen disk.old).told ≡ Some story
         → StillHas path.now old (state_of story) → IsFileNow (state_of story) temporary.now id (written bytes)
         → IsFileNow (state_of story) other k (written text)
-        → OpSpares other (Moved temporary.now path.now)
+        → OpSpares other (Moved temporary.now path.now) → IsOnly (state_of story) other k → id ≢ k → temporary.now ≢ path.now
         → Went story (D.seen disk.new).told (Switches temporary.now path.now) (LeadsEither path.now other old bytes text)
         (HasLed temporary.now path.now other old id bytes k text result) }
     ensures at { IfErr result (λ r. IsAmong r.at (halt_at calls.SyncNames temporary.now ∷ switch_calls path.now)) }
@@ -107,10 +108,13 @@ fn lead<D: Disk>(disk: &mut D, temporary: &Path, path: &Path) -> Result<(), Disk
     if let Err(why) = disk.sync_names() {
         return Err(refusal(DiskCall::SyncNames, temporary, why));
     }
-    match switch(disk, temporary, path) {
-        Ok(()) => Ok(()),
-        Err(refused) => Err(refused),
+    if let Err(why) = disk.rename(temporary, path) {
+        return Err(refusal(DiskCall::Rename, path, why));
     }
+    if let Err(why) = disk.sync_names() {
+        return Err(refusal(DiskCall::SyncNames, path, why));
+    }
+    Ok(())
 }
 
 // Writes a new manifest of these bytes, and then `CURRENT` of those.

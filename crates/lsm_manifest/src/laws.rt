@@ -8,7 +8,8 @@ ghost use Rattle.lsm_disk.specs.Refusals.{no_file};
 ghost use Rattle.lsm_disk.specs.Kept.{Spares};
 ghost use Rattle.lsm_disk.specs.Images.{Tree, IsImage, bytes_at};
 ghost use Rattle.lsm_wal.specs.Reading.{open_end};
-ghost use Rattle.lsm_manifest.specs.Texts.{IsTaken, manifest_text, record_behind};
+ghost use Rattle.lsm_version.specs.Edits.{IsEdit};
+ghost use Rattle.lsm_manifest.specs.Texts.{manifest_text, record_behind};
 ghost use Rattle.lsm_manifest.specs.Standing.{Stands, IsTornManifest, ReadsEither, HoldsEither};
 ghost use Rattle.lsm_manifest.specs.Reading.{At_end, IsReading, ReadsToEither};
 ghost use Rattle.lsm_manifest.specs.Installing.{IsApart, IsInstalled, ShowsNew, manifest_path};
@@ -56,7 +57,7 @@ pub fn an_installed_manifest_is_named()
 /// The text of a manifest reads to its edits, and what an image has while one more is appended
 /// reads to the edits, or to these and the new one.
 pub fn an_image_reads_to_the_edits()
-    ensures whole { (edits : List Edit) → All IsTaken edits → IsReading (manifest_text edits) edits (At_end (open_end None)) }
-    ensures either { (edits : List Edit) (next : Edit) (text : List ℕ) → All IsTaken edits → IsTaken next
+    ensures whole { (edits : List Edit) → All IsEdit edits → IsReading (manifest_text edits) edits (At_end (open_end None)) }
+    ensures either { (edits : List Edit) (next : Edit) (text : List ℕ) → All IsEdit edits → IsEdit next
         → ReadsEither edits next text → ReadsToEither edits next text }
 {}

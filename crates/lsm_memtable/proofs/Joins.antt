@@ -46,7 +46,7 @@ newest_past : (row : Row) (o : Option Row) → ((q : Row) → o ≡ Some q → q
 newest_past row None less = refl
 newest_past row (Some q) less = ap (λ t. Some (cond t row q)) (lesser q.sequence row.sequence (less q refl))
 
-put_newest : (key : List ℕ) (front back : List Row) (row : Row) → AllBefore row.sequence front → AllBefore row.sequence back → newest key (front ++ row ∷ back) ≡ newest key ((front ++ back) ++ row ∷ [])
+pub put_newest : (key : List ℕ) (front back : List Row) (row : Row) → AllBefore row.sequence front → AllBefore row.sequence back → newest key (front ++ row ∷ back) ≡ newest key ((front ++ back) ++ row ∷ [])
 put_newest key front back row before behind =
     newest-append front (row ∷ back) key ∙ by_key (eq_by_cmp key_cmp key row.key) refl ∙ sym (newest-append (front ++ back) (row ∷ []) key)
   where
@@ -63,7 +63,7 @@ put_newest key front back row before behind =
         none_behind None = refl
         none_behind (Some r) = refl
 
-put_perm : (old : List Row) (row : Row) (new : List Row) → IsPut old row new → IsPermutation (row ∷ old) new
+pub put_perm : (old : List Row) (row : Row) (new : List Row) → IsPut old row new → IsPermutation (row ∷ old) new
 put_perm old row new put =
     subst (λ l. IsPermutation l new) (ap (λ l. row ∷ l) (sym put.before))
     (subst (λ l. IsPermutation (row ∷ (put.front ++ put.back)) l) (sym put.after) (IsPermutation-sym (put.front ++ row ∷ put.back) (row ∷ (put.front ++ put.back)) (IsPermutation-middle put.front row put.back)))
@@ -117,7 +117,7 @@ grown_op first old now new ops op row was put is =
 pub joined_grown : (first : ℕ) (old more now : List Row) → IsGrown first old more now → AreInOrder now → AreJoined old more now
 joined_grown first old more now grown order = record { same = grown.same; order = order; newest = grown.newest }
 
-room-is : (rows : List Row) → room_of rows ≡ sum_by row_bytes rows + 100 * length rows
+pub room-is : (rows : List Row) → room_of rows ≡ sum_by row_bytes rows + 100 * length rows
 unfolding room_of
 room-is rows = refl
 

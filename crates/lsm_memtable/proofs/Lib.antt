@@ -1,5 +1,6 @@
 pub mod Feeding
 pub mod Feeds
+pub mod Greatests
 pub mod Heads
 pub mod Joins
 pub mod KeptRows
@@ -7,6 +8,7 @@ pub mod KeyRanges
 pub mod NewestRows
 pub mod Progresses
 pub mod Pushes
+pub mod RowJoins
 pub mod RowPlaces
 pub mod Sorting
 pub mod Steps

@@ -1,9 +1,11 @@
 pub mod FlushPieces
 pub mod Flushes
 pub mod Flushing
+pub mod Greatest
 pub mod Joining
 pub mod Kept
 pub mod Memory
 pub mod Newest
 pub mod Order
+pub mod RowLimits
 pub mod Sizes

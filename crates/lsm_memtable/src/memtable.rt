@@ -1,18 +1,22 @@
 //! The rows that the tables don't have yet.
-ghost use Rattle.std.specs.Prelude.{◌≡◌, ◌<◌, ◌≤◌, ◌^◌, ◌+◌, ◌*◌, ◌∷◌, ◌++◌, [], length, take, nat_lt, ◌↔◌, IsTrue, IfOk, OnOk, OnErr, IfSome};
+ghost use Rattle.std.specs.Prelude.{◌≡◌, List, ◌<◌, ◌≤◌, ◌^◌, ◌+◌, ◌*◌, ◌∷◌, ◌++◌, [], length, take, nat_lt, ◌↔◌, IsTrue, IfOk, OnOk, OnErr, IfSome};
 ghost use Rattle.std.specs.List.{filter, sum_by};
 ghost use Rattle.std.specs.Option.{option_map};
+ghost use Rattle.lsm_rows.specs.declared.rows.Row.{Row};
 ghost use Rattle.lsm_rows.specs.Rows.{batch_rows, row_of};
 ghost use Rattle.lsm_rows.specs.Contents.{newest, AllBefore};
 ghost use Rattle.lsm_block.specs.Runs.{rows_after};
+ghost use Rattle.lsm_memtable.specs.Greatest.{greatest_from};
 ghost use Rattle.lsm_memtable.specs.Sizes.{row_bytes, op_bytes, room_of};
 ghost use Rattle.lsm_memtable.specs.Order.{AreInOrder};
 ghost use Rattle.lsm_memtable.specs.Joining.{AreJoined};
+ghost use Rattle.lsm_memtable.specs.RowLimits.{RowInLimits, RowsInLimits};
 
+use crate::places::copy_of;
 use crate::row_map::RowMap;
-use crate::sizes::{Sizes, ops_bytes};
+use crate::sizes::{Sizes, ops_bytes, row_bytes};
 use lsm_bytes::NoMemory;
-use lsm_rows::{Batch, Op, Row, Rows};
+use lsm_rows::{Batch, MAX_KEY, MAX_VALUE, Op, Row, Rows, SEQUENCES};
 use std::alloc::Global;
 use std::marker::Model;
 
@@ -52,6 +56,37 @@ impl MemTable {
             rows: RowMap::new(alloc),
             sizes: Sizes { rows: 0, bytes: 0 },
         }
+    }
+
+    /// Copies of rows whose sequences ascend. It is refused where memory is wanting, where the table would pass its limit,
+    /// where a sequence isn't past the one before it or is past the last that there is, and where a key or a value is
+    /// longer than one may be.
+    pub fn of_rows(alloc: Global, rows: &[Row]) -> Result<MemTable, NoMemory>
+        ensures joined { IfOk result (λ table. AreJoined [] rows.now table) }
+        ensures limits { IfOk result (λ table. RowsInLimits table) }
+    {
+        let mut table = MemTable::new(alloc);
+        let mut next = 0;
+        for row in rows {
+            next = table.add_row(next, row)?;
+        }
+        Ok(table)
+    }
+
+    // Adds a copy of a row whose sequence is this one or a later one, and gives the one behind it.
+    fn add_row(&mut self, next: u64, row: &Row) -> Result<u64, NoMemory>
+        requires past { AllBefore next self.old }
+        ensures joined { (more : List Row) → AreJoined [] more self.old → OnOk result (AreJoined [] (more ++ row.now ∷ []) self.new) }
+        ensures past { IfOk result (λ later. AllBefore later self.new) }
+        ensures limits { RowsInLimits self.old → OnOk result (RowsInLimits self.new) }
+    {
+        if row.sequence < next || row.sequence >= SEQUENCES {
+            return Err(NoMemory);
+        }
+        let sizes = with_row(self.sizes, row)?;
+        self.rows.push(self.alloc, copy_of(self.alloc, row)?)?;
+        self.sizes = sizes;
+        Ok(row.sequence + 1)
     }
 
     /// Adds the rows of a batch, whose operations have the sequences from `first` on: all of them or none. It is refused
@@ -100,6 +135,14 @@ impl MemTable {
         self.sizes.bytes
     }
 
+    /// The greatest sequence of the rows; 0 where there are none. It looks at each row.
+    pub fn last_sequence(&self) -> u64
+        ensures last { result ≡ greatest_from 0 self.now }
+        ensures order { AreInOrder self.now }
+    {
+        self.rows.last_sequence()
+    }
+
     /// Copies of the next rows after an internal key, from the first where there is none, at most `count`. The key has 8
     /// bytes at least.
     pub fn rows(&self, after: Option<&[u8]>, count: u32) -> Result<Rows, NoMemory>
@@ -132,6 +175,41 @@ fn grown(sizes: Sizes, batch: &Batch) -> Result<Sizes, NoMemory>
         return Err(NoMemory);
     }
     Ok(Sizes { rows, bytes })
+}
+
+// The sizes with one row more. It is refused where the table would pass its limit, and where the row's key or value is longer
+// than one may be.
+fn with_row(sizes: Sizes, row: &Row) -> Result<Sizes, NoMemory>
+    requires { sizes.bytes + 100 * sizes.rows < 2 ^ 29 }
+    ensures limits { OnOk result (RowInLimits row.now) }
+    ensures rows { IfOk result (λ new. new.rows ≡ sizes.rows + 1) }
+    ensures bytes { IfOk result (λ new. new.bytes ≡ sizes.bytes + row_bytes row.now) }
+    ensures room { IfOk result (λ new. new.bytes + 100 * new.rows + 4 < 2 ^ 29) }
+{
+    if !is_in_limits(row) {
+        return Err(NoMemory);
+    }
+    let new = Sizes {
+        rows: sizes.rows + 1,
+        bytes: sizes.bytes + row_bytes(row),
+    };
+    if new.bytes + 100 * new.rows >= ROOM {
+        return Err(NoMemory);
+    }
+    Ok(new)
+}
+
+// Whether a row's key and its value are no longer than they may be.
+fn is_in_limits(row: &Row) -> bool
+    ensures { IsTrue result → RowInLimits row.now }
+{
+    if row.key.len() > MAX_KEY {
+        return false;
+    }
+    match &row.value {
+        Some(value) => value.len() <= MAX_VALUE,
+        None => true,
+    }
 }
 
 // Adds the rows of operations, all of them or none.

@@ -1,8 +1,9 @@
 //! A flush's table, as far as it is built.
 ghost use Rattle.std.specs.Prelude.{◌≡◌, ◌+◌, ◌^◌, ◌<◌, ◌≤◌, ◌∷◌, ◌++◌, ℕ, List, length, map, IfOk, OnOk, OnErr};
 ghost use Rattle.lsm_rows.specs.declared.rows.Row.{Row};
-ghost use Rattle.lsm_block.specs.TableText.{row_entry, blocks_of, blocks_text};
+ghost use Rattle.lsm_block.specs.TableText.{row_entry, blocks_of, blocks_text, AreTableRows};
 ghost use Rattle.lsm_table.specs.Cuts.{size_of};
+ghost use Rattle.lsm_table.specs.WholeTables.{IsTable};
 ghost use Rattle.lsm_table.specs.Building.{IsBuilt, IsBehind, IsFinished, row_len};
 
 use lsm_bytes::{Bytes, NoMemory};
@@ -107,6 +108,8 @@ impl Progress {
         requires taken { self.old.taken ≤ self.old.built }
         ensures ok { (rows : List Row) → IsProgress self.old rows → self.old.built ≡ length rows
             → IfOk result (λ f. IsFinished self.old.builder rows (bytes_of rows self.old.taken) f.tail f.size f.smallest f.largest) }
+        ensures whole { (rows : List Row) → IsProgress self.old rows → self.old.built ≡ length rows → AreTableRows rows
+            → IfOk result (λ f. IsTable (bytes_of rows self.old.taken ++ f.tail) rows self.old.builder.number self.old.builder.session) }
         ensures progress { (rows : List Row) → IsProgress self.old rows → IsProgress self.new rows }
         ensures all { OnOk result (self.new.taken ≡ self.old.built) }
         ensures not_taken { OnErr result (self.new.taken ≡ self.old.taken) }

@@ -4,6 +4,7 @@ ghost use Rattle.std.specs.List.{filter, sum_by};
 ghost use Rattle.std.specs.Option.{option_map};
 ghost use Rattle.lsm_rows.specs.Contents.{newest, AllBefore};
 ghost use Rattle.lsm_block.specs.Runs.{rows_after};
+ghost use Rattle.lsm_memtable.specs.Greatest.{greatest_from};
 ghost use Rattle.lsm_memtable.specs.Sizes.{row_bytes, room_of};
 ghost use Rattle.lsm_memtable.specs.Newest.{newest_each};
 ghost use Rattle.lsm_memtable.specs.Flushing.{IsProgress, StartsAt, IsBuiltTo, IsReady};
@@ -109,6 +110,17 @@ impl RowMap {
             bytes += sizes.bytes;
         }
         Sizes { rows, bytes }
+    }
+
+    /// The greatest sequence of the rows; 0 where there are none.
+    pub fn last_sequence(&self) -> u64
+        ensures { result ≡ greatest_from 0 self.now }
+    {
+        let mut last = 0;
+        for versions in self.keys.values() {
+            last = versions.last_from(last);
+        }
+        last
     }
 
     /// The next rows after an internal key, at most `count`.

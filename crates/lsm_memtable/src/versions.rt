@@ -3,6 +3,7 @@ ghost use Rattle.std.specs.Prelude.{◌≡◌, ◌<◌, ◌≤◌, ◌^◌, ◌+
 ghost use Rattle.std.specs.List.{filter, sum_by};
 ghost use Rattle.std.specs.Option.{option_map};
 ghost use Rattle.lsm_block.specs.Runs.{rows_after};
+ghost use Rattle.lsm_memtable.specs.Greatest.{greatest_from};
 ghost use Rattle.lsm_memtable.specs.Sizes.{row_bytes};
 
 use crate::places::{copy_of, is_after};
@@ -76,6 +77,18 @@ impl Versions {
             rows: self.rows.len() as u64,
             bytes,
         }
+    }
+
+    /// The greatest of `last` and the rows' sequences.
+    pub fn last_from(&self, mut last: u64) -> u64
+        ensures { result ≡ greatest_from last self.now }
+    {
+        for row in self.rows.iter().rev() {
+            if last < row.sequence {
+                last = row.sequence;
+            }
+        }
+        last
     }
 
     /// Adds copies of the rows after an internal key, until there are `count` rows.

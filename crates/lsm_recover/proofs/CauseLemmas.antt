@@ -11,20 +11,21 @@ use Rattle.lsm_disk.specs.declared.calls.Halt.{Halt}
 use Rattle.lsm_recover.specs.declared.errors.FolderError.{FolderError}
 use Rattle.lsm_recover.specs.declared.errors.FolderError.TheVariants.{DiskFault, NoFolder, NoCurrent, Missing, Changed, Short, Damaged, Malformed, TornLog, Gap, BadLevels, NoMemory}
 use Rattle.lsm_disk.specs.declared.calls.DiskRefusal.{DiskRefusal}
-use Rattle.lsm_recover.specs.Causes.{error_for, error_by, HasRisenBy, HasRisenIn, IsOfBytes, HasFolderCause}
+use Rattle.lsm_recover.specs.Causes.{error_for, error_by, IsOfReading, HasRisenBy, HasRisenIn, IsOfBytes, HasFolderCause}
 
 pub rose_wider : (first old new last : ℕ) → first ≤ old → new ≤ last → Rose old new → Rose first last
 rose_wider first old new last before behind rose = omega (arith, before, behind, rose)
 
 -- a refused disk call
-pub call_risen : (dir : List ℕ) (old new : Seen) (missing : FolderError) (at : Halt) (why : DiskError) → HasRisen old new why → (Rose old.refusals new.refusals → HasRisenBy dir old new missing) → HasRisenBy dir old new (error_for missing at why)
-call_risen dir old new missing at disk.Fault rose none = rose
-call_risen dir old new missing at disk.NotThere rose none = none rose
-call_risen dir old new missing at disk.Exists rose none = rose
-call_risen dir old new missing at disk.NoLinks rose none = rose
-call_risen dir old new missing at disk.NotEmpty rose none = rose
-call_risen dir old new missing at (disk.Short found) rose none = rose
-call_risen dir old new missing at disk.NoMemory rose none = tt
+pub call_risen : (dir : List ℕ) (old new : Seen) (missing : FolderError) (at : Halt) (why : DiskError) → IsOfReading at.call → HasRisen old new why
+    → (Rose old.refusals new.refusals → HasRisenBy dir old new missing) → HasRisenBy dir old new (error_for missing at why)
+call_risen dir old new missing at disk.Fault by rose none = rose
+call_risen dir old new missing at disk.NotThere by rose none = none rose
+call_risen dir old new missing at disk.Exists by rose none = (rose, by)
+call_risen dir old new missing at disk.NoLinks by rose none = (rose, by)
+call_risen dir old new missing at disk.NotEmpty by rose none = (rose, by)
+call_risen dir old new missing at (disk.Short found) by rose none = (rose, by)
+call_risen dir old new missing at disk.NoMemory by rose none = tt
 
 -- an error that a view gave, where the view was closed
 pub view_risen : (dir : List ℕ) (old mid new : Seen) (before now : Viewed) (error : FolderError) → HasRisenIn before now error → before.faults ≡ 0 → (0 < now.faults → Rose mid.faults new.faults) → old.faults ≤ mid.faults → HasRisenBy dir old new error
@@ -51,7 +52,8 @@ risen_wider dir first old new last DiskFault f r g q rose = rose_wider first.fau
 risen_wider dir first old new last (NoFolder at) f r g q rose = (rose.0, rose_wider first.refusals old.refusals new.refusals last.refusals r q rose.1)
 risen_wider dir first old new last (NoCurrent at) f r g q rose = (rose.0, rose_wider first.refusals old.refusals new.refusals last.refusals r q rose.1)
 risen_wider dir first old new last (Missing name) f r g q rose = rose_wider first.refusals old.refusals new.refusals last.refusals r q rose
-risen_wider dir first old new last (Changed call path) f r g q rose = rose_wider first.refusals old.refusals new.refusals last.refusals r q rose
+risen_wider dir first old new last (Changed made path) f r g q rose =
+    (rose_wider first.refusals old.refusals new.refusals last.refusals r q rose.0, rose.1)
 risen_wider dir first old new last (Short name kept found) f r g q rose = tt
 risen_wider dir first old new last (Damaged name place kept found) f r g q rose = tt
 risen_wider dir first old new last (Malformed name place) f r g q rose = tt
@@ -67,12 +69,13 @@ pub view_cause : {T : Type 0} (dir : List ℕ) (old mid new : Seen) (before now 
 view_cause dir old mid new before now (Ok x) rose fresh closed f g r q = record { faults_later = omega (arith, f, g); refusals_later = omega (arith, r, q); counted = tt }
 view_cause dir old mid new before now (Err error) rose fresh closed f g r q = record { faults_later = omega (arith, f, g); refusals_later = omega (arith, r, q); counted = view_risen dir old mid new before now error rose fresh closed f }
 
-pub call_cause : {T : Type 0} (dir : List ℕ) (old new : Seen) (missing : FolderError) (refused : DiskRefusal) (error : FolderError) → error ≡ error_by missing refused → old.faults ≤ new.faults → old.refusals ≤ new.refusals → HasRisen old new refused.why
+pub call_cause : {T : Type 0} (dir : List ℕ) (old new : Seen) (missing : FolderError) (refused : DiskRefusal) (error : FolderError) → error ≡ error_by missing refused
+    → IsOfReading refused.at.call → old.faults ≤ new.faults → old.refusals ≤ new.refusals → HasRisen old new refused.why
     → (Rose old.refusals new.refusals → HasRisenBy dir old new missing) → HasFolderCause {T = T} dir old new (Err error)
-call_cause dir old new missing refused error is f r rose none = record {
+call_cause dir old new missing refused error is by f r rose none = record {
   faults_later = f;
   refusals_later = r;
-  counted = subst (HasRisenBy dir old new) (sym is) (call_risen dir old new missing refused.at refused.why rose none);
+  counted = subst (HasRisenBy dir old new) (sym is) (call_risen dir old new missing refused.at refused.why by rose none);
 }
 
 -- a call behind another one that was Ok

@@ -6,6 +6,7 @@ use Rattle.std.specs.Cmp.{nat_cmp_total}
 use Rattle.std.specs.Ordering.{nat_cmp, is_lt}
 use Rattle.std.specs.FinMap as finmap
 use Rattle.std.specs.FinMap.Entries.{below_all, is_sorted}
+use Rattle.lsm_names.specs.declared.file_names.FileName.{FileName}
 use Rattle.lsm_rows.specs.declared.operations.Op.{Op}
 use Rattle.lsm_rows.specs.declared.rows.Row.{Row}
 use Rattle.lsm_rows.specs.Contents.{contents_of}
@@ -47,7 +48,7 @@ use Rattle.lsm_recover.proofs.OpenLemmas.{where_told}
 
 -- ---- a folder whose edits are refused
 
-same_refusal : (one two : Refusal) (read : Result (List Edit) Refusal) → read ≡ Err one → read ≡ Err two → one ≡ two
+pub same_refusal : (one two : Refusal) (read : Result (List Edit) Refusal) → read ≡ Err one → read ≡ Err two → one ≡ two
 same_refusal one two read is says = let same : Err one ≡ Err two = sym is ∙ says in cc
 
 by_edits : (files : Files) → texts_in files ≡ (edits_at files >>= texts_behind files)
@@ -188,21 +189,25 @@ module _ (dir : List ℕ) (story : Story) (head : Head) (is : IsHead dir story h
         folder_read rows sequence found.contents r contents ∙ ap (λ (n : ℕ). Ok (record { sequence = n; contents = found.contents })) (sym last)
     found_answers rows sequence r (Err error) contents last refused = subst (IsRefusedBy (reading (place_now dir story))) (sym refused) tt
 
--- what else was found is what the folder's manifest and its listing say
-pub found_of : (dir : List ℕ) (told : Option Story) (head : Head) (result : Result Found FolderError) → ((story : Story) → told ≡ Some story → IsHead dir story head)
-    → IfOk result (λ (found : Found). found.version ≡ head.stated.version) → IfOk result (λ (found : Found). found.log ≡ head.stated.log)
-    → IfOk result (λ (found : Found). found.next ≡ next_number head.stated.next head.listing) → IfOk result (λ (found : Found). found.names ≡ names_in head.listing)
-    → IfOk result (λ (found : Found). IfSome told (λ (story : Story). IsOfFolder dir story found))
-found_of dir told head (Err error) heads version log next names = tt
-found_of dir told head (Ok found) heads version log next names = where_told told (λ (story : Story). IsOfFolder dir story found)
-    (λ story is.
-    let of = heads story is in
+-- what a head says of a folder
+pub of_folder : (dir : List ℕ) (story : Story) (head : Head) → IsHead dir story head → (version : Tables) (log next : ℕ) (names : List FileName) → version ≡ head.stated.version → log ≡ head.stated.log
+    → next ≡ next_number head.stated.next head.listing → names ≡ names_in head.listing → IsOfFolder dir story version log next names
+of_folder dir story head of version log next names version_so log_so next_so names_so =
     let edits = of.gives.edits in
     record {
       edits = edits;
       said = of.gives.is;
-      version = version ∙ sym (version_is edits head.stated of.gives.are);
-      log = log ∙ sym (log_is edits head.stated of.gives.are);
-      next = next ∙ (λ i. next_number (sym (next_is edits head.stated of.gives.are) i) (of.listed.entries_are i));
-      names = names ∙ ap names_in of.listed.entries_are;
-    })
+      version_is = version_so ∙ sym (version_is edits head.stated of.gives.are);
+      log_is = log_so ∙ sym (log_is edits head.stated of.gives.are);
+      next_is = next_so ∙ (λ i. next_number (sym (next_is edits head.stated of.gives.are) i) (of.listed.entries_are i));
+      names_are = names_so ∙ ap names_in of.listed.entries_are;
+    }
+
+-- what else was found is what the folder's manifest and its listing say
+pub found_of : (dir : List ℕ) (told : Option Story) (head : Head) (result : Result Found FolderError) → ((story : Story) → told ≡ Some story → IsHead dir story head)
+    → IfOk result (λ (found : Found). found.version ≡ head.stated.version) → IfOk result (λ (found : Found). found.log ≡ head.stated.log)
+    → IfOk result (λ (found : Found). found.next ≡ next_number head.stated.next head.listing) → IfOk result (λ (found : Found). found.names ≡ names_in head.listing)
+    → IfOk result (λ (found : Found). IfSome told (λ (story : Story). IsOfFolder dir story found.version found.log found.next found.names))
+found_of dir told head (Err error) heads version log next names = tt
+found_of dir told head (Ok found) heads version log next names = where_told told (λ (story : Story). IsOfFolder dir story found.version found.log found.next found.names)
+    (λ story is. of_folder dir story head (heads story is) found.version found.log found.next found.names version log next names)

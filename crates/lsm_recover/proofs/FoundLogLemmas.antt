@@ -49,7 +49,7 @@ module _ (first : ℕ) (more : List ℕ) (least : ℕ) where
   part_is None name e = cc
   part_is (Some rest) name e = elim (is_some (cut_last rest)) as (λ b. cond b None (Some rest) ≡ Some name → Some rest ≡ Some name) [ true ↦ λ h. cc | false ↦ λ h. h ] e
 
-  name_is : (path name : List ℕ) → listed_name dir path ≡ Some name → path ≡ dir ++ 47 ∷ name
+  pub name_is : (path name : List ℕ) → listed_name dir path ≡ Some name → path ≡ dir ++ 47 ∷ name
   name_is path name e = elim (is_path path) as (λ b. cond b (one_part (inside dir path)) None ≡ Some name → path ≡ dir ++ 47 ∷ name) [
     | true ↦ λ h. inside_is path name (under dir path) refl (part_is (inside dir path) name h)
     | false ↦ λ h. cc

@@ -1,6 +1,8 @@
 pub mod AnswerLemmas
+pub mod BehindLemmas
 pub mod CauseLemmas
 pub mod DiskLemmas
+pub mod EntryLemmas
 pub mod FolderLemmas
 pub mod FolderLogLemmas
 pub mod FoundLogLemmas
@@ -13,9 +15,16 @@ pub mod LoopLemmas
 pub mod ManifestLemmas
 pub mod NextLogLemmas
 pub mod OpenLemmas
+pub mod OpenTablesLemmas
+pub mod OpenedLemmas
+pub mod OpeningLemmas
+pub mod OpensLemmas
 pub mod PartLemmas
 pub mod ReplayLemmas
 pub mod RowLemmas
+pub mod SaidLemmas
+pub mod SiteAnswers
+pub mod SiteLemmas
 pub mod SoundLemmas
 pub mod StatedLemmas
 pub mod TablesLemmas

@@ -1,5 +1,5 @@
 -- What the files of a folder on a disk say, where they are there and where not.
-use Rattle.std.specs.Prelude.{◌≡◌, ℕ, ◌≤◌, is_some, List, ◌∷◌, ◌++◌, length, Option, Some, None, IsTrue, Result, Err}
+use Rattle.std.specs.Prelude.{◌≡◌, ℕ, ◌≤◌, is_some, List, ◌∷◌, ◌++◌, length, Option, Some, None, IsTrue, Result, Ok, Err}
 use Rattle.std.proofs.Common.{refl, sym, ap, subst, ◌∙◌}
 use Rattle.lsm_names.specs.declared.file_names.FileName.{FileName}
 use Rattle.lsm_names.specs.declared.file_names.FileName.TheVariants.{Table, Manifest, Current}
@@ -9,6 +9,11 @@ use Rattle.lsm_disk.specs.Refusals.{no_file}
 use Rattle.lsm_disk.specs.Answers.{RefusesBy}
 use Rattle.lsm_disk.specs.declared.calls.DiskRefusal.{DiskRefusal}
 use Rattle.lsm_disk.specs.declared.calls.DiskError.TheVariants as disk
+use Rattle.lsm_disk.specs.Viewed.{Viewed}
+use Rattle.lsm_frame.specs.Reader.{Tells, Stays}
+use Rattle.lsm_table.specs.Tables.{Opened}
+use Rattle.lsm_table.specs.declared.parts.Properties.{Properties}
+use Rattle.lsm_folder.proofs.RecordLemmas.{still_tells}
 use Rattle.lsm_version.specs.declared.edits.Edit.{Edit}
 use Rattle.lsm_folder.specs.declared.refusals.Refusal.{Refusal}
 use Rattle.lsm_folder.specs.declared.refusals.Refusal.TheVariants as refusal
@@ -24,6 +29,7 @@ use Rattle.lsm_recover.specs.declared.errors.FolderError.{FolderError}
 use Rattle.lsm_recover.specs.declared.errors.FolderError.TheVariants.{NoCurrent, Missing}
 use Rattle.lsm_recover.specs.Answers.{AnswersAs, IsRefusedBy, files_now}
 use Rattle.lsm_recover.specs.Causes.{error_by}
+use Rattle.lsm_recover.specs.Opening.{IsOpenOn, opened_said, opened_of}
 use Rattle.lsm_recover.specs.declared.manifest.Stated.{Stated}
 use Rattle.lsm_recover.specs.Stated.{AnswersStated}
 use Rattle.lsm_recover.proofs.DiskLemmas.{file_there, file_missing, refused_call}
@@ -74,3 +80,31 @@ module _ (dir : List ℕ) (story : Story) (some : 1 ≤ length dir) (path : List
   table_refused number placed r error told fits is refused = subst (IsRefusedBy (table_of (files_now dir story) number placed)) (sym told)
       (refused_call (table_of (files_now dir story) number placed) (Missing (Table number)) r.at r.why (is_some (file_at (state_of story) path)) refused
       (λ none. table_missing number placed (is_missing (Table number) fits is none)))
+
+  module _ (number : ℕ) (placed : Placed) (fits : IsTrue (is_file_number number)) (is : path ≡ dir ++ 47 ∷ spelled (Table number)) where
+    opened_here : no_file path (state_of story) ≡ None → opened_of (files_now dir story) number placed ≡ opened_said number placed.info bytes_here
+    unfolding opened_of
+    opened_here there = ap (λ (o : Option (List ℕ)). some_or (refusal.Missing (Table number)) o >>= λ (bytes : List ℕ). opened_said number placed.info bytes) (is_there (Table number) fits is there)
+
+    -- a table that was opened
+    pub open_on : (view : Viewed) (table : Opened) → no_file path (state_of story) ≡ None → Tells view bytes_here → Stays view table.viewed → opened_said number placed.info bytes_here ≡ Ok table.properties
+        → IsOpenOn (files_now dir story) number placed table
+    open_on view table there tells stays opens = record {
+      bytes = bytes_here;
+      there = is_there (Table number) fits is there;
+      tells = still_tells bytes_here view table.viewed tells stays;
+      is = opened_here there ∙ opens;
+    }
+
+    -- one that was not
+    pub open_refused : (error : FolderError) → no_file path (state_of story) ≡ None → IsRefusedBy (opened_said number placed.info bytes_here) error → IsRefusedBy (opened_of (files_now dir story) number placed) error
+    open_refused error there refused = subst (λ (r : Result Properties Refusal). IsRefusedBy r error) (sym (opened_here there)) refused
+
+    open_missing : folder.file_at (files_now dir story) (Table number) ≡ None → opened_of (files_now dir story) number placed ≡ Err (refusal.Missing (Table number))
+    unfolding opened_of
+    open_missing none = ap (λ (o : Option (List ℕ)). some_or (refusal.Missing (Table number)) o >>= λ (bytes : List ℕ). opened_said number placed.info bytes) none
+
+    -- one whose file couldn't be opened
+    pub file_refused : (r : DiskRefusal) (error : FolderError) → error ≡ error_by (Missing (Table number)) r → RefusesBy (no_file path (state_of story)) r.why → IsRefusedBy (opened_of (files_now dir story) number placed) error
+    file_refused r error told refused = subst (IsRefusedBy (opened_of (files_now dir story) number placed)) (sym told)
+        (refused_call (opened_of (files_now dir story) number placed) (Missing (Table number)) r.at r.why (is_some (file_at (state_of story) path)) refused (λ none. open_missing (is_missing (Table number) fits is none)))

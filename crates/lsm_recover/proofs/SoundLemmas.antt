@@ -24,12 +24,12 @@ use Rattle.lsm_recover.specs.Stated.{AreNumbered}
 
 -- ---- fields
 
-front_fields : (after : Rank) (xs ys : List Field) → AreFields after (xs ++ ys) → AreFields after xs
+pub front_fields : (after : Rank) (xs ys : List Field) → AreFields after (xs ++ ys) → AreFields after xs
 unfolding AreFields
 front_fields after [] ys are = tt
 front_fields after (x ∷ xs) ys are = (are.0, front_fields (rank_of x) xs ys are.1)
 
-back_fields : (after : Rank) (xs ys : List Field) → AreFields after (xs ++ ys) → (behind : Rank) × AreFields behind ys
+pub back_fields : (after : Rank) (xs ys : List Field) → AreFields after (xs ++ ys) → (behind : Rank) × AreFields behind ys
 unfolding AreFields
 back_fields after [] ys are = (after, are)
 back_fields after (x ∷ xs) ys are = back_fields (rank_of x) xs ys are.1
@@ -113,7 +113,7 @@ all_added o [] fits are = are
 all_added o (add ∷ adds) fits are =
     all_added (added o add) adds (All-tail (λ (a : Add). is_file_number a.table.number ≡ true) add adds fits) (one_added o add (All-head (λ (a : Add). is_file_number a.table.number ≡ true) add adds fits) are)
 
-unrefused : (tables after : Tables) (pairs : List Overlap) → refused_by tables pairs ≡ Ok after → tables ≡ after
+pub unrefused : (tables after : Tables) (pairs : List Overlap) → refused_by tables pairs ≡ Ok after → tables ≡ after
 unrefused tables after [] is = cc
 unrefused tables after (pair ∷ pairs) is = cc
 

@@ -70,7 +70,7 @@ unfolding IsOutside
 not_outside_malformed place h = h
 
 -- what reads as a table's fault is refused by the error that the fault is
-fault_refused : (read : Result TableRead Refusal) (name : FileName) (fault : TableFault) → ((IsOutside fault → ⊥) → read ≡ table_says name (Err fault)) → IsRefusedBy read (table_error name fault)
+pub fault_refused : {A : Type 0} (read : Result A Refusal) (name : FileName) (fault : TableFault) → ((IsOutside fault → ⊥) → read ≡ table_says name (Err fault)) → IsRefusedBy read (table_error name fault)
 fault_refused read name table.ReadFault is = tt
 fault_refused read name (table.Damaged place kept found) is = is (not_outside_damaged place kept found)
 fault_refused read name (table.Malformed place) is = is (not_outside_malformed place)

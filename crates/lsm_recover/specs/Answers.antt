@@ -8,8 +8,8 @@ use Rattle.lsm_folder.specs.Files.{Files, Place, files_in, place_of}
 use Rattle.lsm_recover.specs.declared.errors.FolderError.{FolderError}
 use Rattle.lsm_recover.specs.declared.errors.FolderError.TheVariants.{DiskFault, NoFolder, NoCurrent, Missing, Changed, Short, Damaged, Malformed, TornLog, Gap, BadLevels, NoMemory}
 
--- the refusal that an error is has this property. A fault and want of memory are no refusals, and a folder that changes
--- while it is read isn't seen where the disk tells.
+-- the refusal that an error is has this property. A fault and want of memory are no refusals, and a
+-- folder that changes while it is read isn't seen where the disk tells.
 abbrev pub IsRefusal : (Refusal → Type 0) → FolderError → Type 0
 IsRefusal Has DiskFault = Unit {0}
 IsRefusal Has (NoFolder dir) = Has refusal.NoFolder

@@ -1,8 +1,10 @@
 -- Which count rose where a reading of a folder was refused.
-use Rattle.std.specs.Prelude.{◌≡◌, ℕ, ◌≤◌, List, Result, IfErr}
+use Rattle.std.specs.Prelude.{◌≡◌, ◌⊎◌, ℕ, ◌≤◌, List, Result, IfErr}
 use Rattle.lsm_io.specs.Causes.{Rose}
 use Rattle.lsm_disk.specs.State.{Seen}
 use Rattle.lsm_disk.specs.Viewed.{Viewed}
+use Rattle.lsm_disk.specs.declared.calls.DiskCall.{DiskCall}
+use Rattle.lsm_disk.specs.declared.calls.DiskCall.TheVariants as call
 use Rattle.lsm_disk.specs.declared.calls.DiskError.{DiskError}
 use Rattle.lsm_disk.specs.declared.calls.DiskError.TheVariants as disk
 use Rattle.lsm_disk.specs.declared.calls.Halt.{Halt}
@@ -30,14 +32,19 @@ error_for missing at disk.NoMemory = NoMemory
 abbrev pub error_by : FolderError → DiskRefusal → FolderError
 error_by missing refused = error_for missing refused.at refused.why
 
--- A fault raised the count of faults. What isn't there or has changed raised that of refusals, and a folder that isn't there
--- or has no CURRENT is the one that is read. The others are of the bytes that were read.
+-- the disk calls that a reading of a folder makes
+abbrev pub IsOfReading : DiskCall → Type 0
+IsOfReading made = (made ≡ call.List) ⊎ ((made ≡ call.Size) ⊎ (made ≡ call.Open))
+
+-- A fault raised the count of faults. What isn't there or has changed raised that of refusals, and
+-- a folder that isn't there or has no CURRENT is the one that is read; it is a call of the reading
+-- that finds it changed. The others are of the bytes that were read.
 abbrev pub HasRisenBy : List ℕ → Seen → Seen → FolderError → Type 0
 HasRisenBy dir old new DiskFault = Rose old.faults new.faults
 HasRisenBy dir old new (NoFolder at) = (at ≡ dir) × Rose old.refusals new.refusals
 HasRisenBy dir old new (NoCurrent at) = (at ≡ dir) × Rose old.refusals new.refusals
 HasRisenBy dir old new (Missing name) = Rose old.refusals new.refusals
-HasRisenBy dir old new (Changed call path) = Rose old.refusals new.refusals
+HasRisenBy dir old new (Changed made path) = Rose old.refusals new.refusals × IsOfReading made
 HasRisenBy dir old new (Short name kept found) = Unit {0}
 HasRisenBy dir old new (Damaged name place kept found) = Unit {0}
 HasRisenBy dir old new (Malformed name place) = Unit {0}
@@ -51,7 +58,8 @@ pub record HasFolderCause {T : Type 0} (dir : List ℕ) (old new : Seen) (result
   pub refusals_later : old.refusals ≤ new.refusals
   pub counted : IfErr result (HasRisenBy dir old new)
 
--- the same of an error that a view gives: a fault raised its count, and no call of the disk was refused
+-- the same of an error that a view gives: a fault raised its count, and no call of the disk was
+-- refused
 abbrev pub HasRisenIn : Viewed → Viewed → FolderError → Type 0
 HasRisenIn old new DiskFault = Rose old.faults new.faults
 HasRisenIn old new (NoFolder at) = ⊥

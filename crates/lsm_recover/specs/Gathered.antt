@@ -7,7 +7,8 @@ use Rattle.lsm_rows.specs.declared.rows.Row.{Row}
 use Rattle.lsm_rows.specs.Pairs.{coded_bytes, coded_contents}
 use Rattle.lsm_rows.specs.Replay.{Contents, key_cmp}
 
--- what is kept of rows: by key the value of its newest row, and that row's sequence, also where it is a delete
+-- what is kept of rows: by key the value of its newest row, and that row's sequence, also where it
+-- is a delete
 pub record Gathered : Type 0 where
   pub contents : Contents
   pub sequences : finmap.FinMap key_cmp ℕ

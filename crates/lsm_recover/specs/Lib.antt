@@ -4,6 +4,8 @@ pub mod Gathered
 pub mod Head
 pub mod Listed
 pub mod Logs
+pub mod Opening
 pub mod Shown
+pub mod Site
 pub mod Stated
 pub mod Tables

@@ -1,5 +1,5 @@
 -- The logs that a folder's listing tells.
-use Rattle.std.specs.Prelude.{◌≡◌, ℕ, true, nat_le, if◌then◌else◌, min, max, ◌+◌, List, [], ◌∷◌, Option, Some, None}
+use Rattle.std.specs.Prelude.{◌≡◌, ℕ, true, nat_le, if◌then◌else◌, min, max, ◌+◌, ◌<◌, All, List, [], ◌∷◌, Option, Some, None}
 use Rattle.lsm_names.specs.declared.file_names.FileName.{FileName}
 use Rattle.lsm_names.specs.declared.file_names.FileName.TheVariants.{Log, Table, Manifest, Temp, Current}
 use Rattle.lsm_disk.specs.Names.{is_folder}
@@ -53,6 +53,11 @@ abbrev pub number_behind : Option FileName → ℕ
 number_behind None = 0
 number_behind (Some name) = number_of name + 1
 
--- the next file number: it is behind the number of each file name among the entries, and no smaller than this one
+-- the next file number: it is behind the number of each file name among the entries, and no smaller
+-- than this one
 abbrev pub next_number : ℕ → List Entry → ℕ
 next_number next entries = fold (λ (n : ℕ) (entry : Entry). max n (number_behind (name_of entry.name))) next entries
+
+-- the numbers of all these names come before this one
+abbrev pub AreBefore : ℕ → List FileName → Type 0
+AreBefore next names = All (λ (name : FileName). number_of name < next) names

@@ -15,7 +15,8 @@ use Rattle.lsm_recover.specs.declared.errors.FolderError.TheVariants.{TornLog, N
 abbrev pub AddsRows : ℕ → List (List Op) → List Row → List Row → Type 0
 AddsRows last batches before after = sequence_after last batches < 2 ^ 64 → after ≡ before ++ rows_of (last + 1) batches
 
--- behind a first sequence some batches were read and their rows added, and then that is still to be read
+-- behind a first sequence some batches were read and their rows added, and then that is still to be
+-- read
 pub record Replays (first : ℕ) (read : Result (List (List Op)) Refusal) (rest : ℕ → Result (List (List Op)) Refusal)
     (before after : List Row) (last : ℕ) : Type 0 where
   pub more : List (List Op)
@@ -38,8 +39,8 @@ pub record IsReplayed (read : Result (List (List Op)) Refusal) (last : ℕ) (bef
   pub last_is : next + 1 ≡ sequence_after (last + 1) batches
   pub small : next < 2 ^ 56
 
--- the answer is the last sequence behind one log that is there, whose rows were added, or the log's refusal; a log
--- that isn't there is missing
+-- the answer is the last sequence behind one log that is there, whose rows were added, or the log's
+-- refusal; a log that isn't there is missing
 abbrev pub AnswersLog : Option (List ℕ) → (List ℕ → Result (List (List Op)) Refusal) → ℕ → List Row → List Row
     → Result ℕ FolderError → Type 0
 AnswersLog None read last before after result = Unit {0}

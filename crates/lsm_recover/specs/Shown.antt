@@ -2,7 +2,9 @@
 use Rattle.std.specs.Prelude.{◌≡◌, ℕ, List, Result, Ok, Err}
 use Rattle.lsm_disk.specs.Listing.{listing}
 use Rattle.lsm_disk.specs.State.{Story, state_of, names_now}
+use Rattle.lsm_names.specs.declared.file_names.FileName.{FileName}
 use Rattle.lsm_version.specs.declared.edits.Edit.{Edit}
+use Rattle.lsm_version.specs.Levels.{Tables}
 use Rattle.lsm_folder.specs.Manifests.{tables_after, log_after, next_after}
 use Rattle.lsm_folder.specs.declared.refusals.Refusal.{Refusal}
 use Rattle.lsm_folder.specs.Reading.{Shown}
@@ -21,12 +23,12 @@ abbrev pub AnswersShown : Result Shown Refusal → Result Found FolderError → 
 AnswersShown read (Ok found) = read ≡ Ok (shown found)
 AnswersShown read (Err error) = IsRefusedBy read error
 
--- the version, the log number and the next number are what the folder's manifest says, but that the next number is behind
--- those of the files too, and the names are those of the folder's listing
-pub record IsOfFolder (dir : List ℕ) (story : Story) (found : Found) : Type 0 where
+-- the version and the log number are what the folder's manifest says; the next number too, but that
+-- it is behind those of the files; and the names are those of the folder's listing
+pub record IsOfFolder (dir : List ℕ) (story : Story) (version : Tables) (log next : ℕ) (names : List FileName) : Type 0 where
   pub edits : List Edit
   pub said : edits_there (place_now dir story) ≡ Ok edits
-  pub version : found.version ≡ tables_after edits
-  pub log : found.log ≡ log_after edits
-  pub next : found.next ≡ next_number (next_after edits) (listing dir (names_now (state_of story)))
-  pub names : found.names ≡ names_in (listing dir (names_now (state_of story)))
+  pub version_is : version ≡ tables_after edits
+  pub log_is : log ≡ log_after edits
+  pub next_is : next ≡ next_number (next_after edits) (listing dir (names_now (state_of story)))
+  pub names_are : names ≡ names_in (listing dir (names_now (state_of story)))

@@ -5,7 +5,7 @@ use Rattle.lsm_names.specs.declared.file_names.FileName.{FileName}
 use Rattle.lsm_names.specs.FileNames.{is_file_number}
 use Rattle.lsm_version.specs.declared.edits.Edit.{Edit}
 use Rattle.lsm_version.specs.declared.tables.Placed.{Placed}
-use Rattle.lsm_version.specs.Edits.{IsSomeEdit}
+use Rattle.lsm_version.specs.Edits.{IsPlace, IsTable, IsSomeEdit}
 use Rattle.lsm_version.specs.Levels.{Tables}
 use Rattle.lsm_version.specs.Versions.{applied, version_after, numbers_after}
 use Rattle.lsm_folder.specs.declared.refusals.Refusal.{Refusal}
@@ -33,9 +33,20 @@ IsStated edits (Some stated) = AreStated edits stated
 abbrev pub AreNumbered : Tables → Type 0
 AreNumbered tables = (number : ℕ) (placed : Placed) → finmap.get tables number ≡ Some placed → is_file_number number ≡ true
 
--- the numbers that edits of the grammar give
+-- a table with its level, which says of itself what an edit may say, the number by which it is found among it
+pub record IsSaid (number : ℕ) (placed : Placed) : Type 0 where
+  pub place : IsPlace placed.level number
+  pub info : IsTable placed.info
+  pub own : placed.info.number ≡ number
+
+-- so are all tables of a version
+abbrev pub AreSaid : Tables → Type 0
+AreSaid tables = (number : ℕ) (placed : Placed) → finmap.get tables number ≡ Some placed → IsSaid number placed
+
+-- what edits of the grammar give: tables, and a last sequence
 pub record IsSound (stated : Stated) : Type 0 where
   pub numbered : AreNumbered stated.version
+  pub said : AreSaid stated.version
   pub small : stated.last < 2 ^ 56
 
 -- what edits and one more record say

@@ -38,7 +38,8 @@ pub record GathersTables (read : Result (List (ℕ × TableRead)) Refusal) (befo
   pub rows_are : after ≡ with_rows before (rows_in_turn tables)
 
 -- the answer is that the rows of tables were gathered, or the first refusal
-abbrev pub AnswersTables : {T : Type 0} → Result (List (ℕ × TableRead)) Refusal → Gathered → Gathered → Result T FolderError → Type 0
+abbrev pub AnswersTables : {T : Type 0} → Result (List (ℕ × TableRead)) Refusal → Gathered → Gathered → Result T FolderError
+    → Type 0
 AnswersTables read before after (Ok done) = GathersTables read before after
 AnswersTables read before after (Err error) = IsRefusedBy read error
 

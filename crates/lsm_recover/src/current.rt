@@ -24,8 +24,8 @@ const MALFORMED: FolderError = FolderError::Malformed {
     place: 0,
 };
 
-// The number of the manifest that `CURRENT` names.
-pub(crate) fn read_current<D: Disk>(disk: &mut D, dir: &Path) -> Result<u64, FolderError>
+/// The number of the manifest that `CURRENT` names. The folder's path has at most 130 bytes.
+pub fn read_current<D: Disk>(disk: &mut D, dir: &Path) -> Result<u64, FolderError>
     requires { length dir.now + 30 ≤ 160 }
     ensures told { (D.seen disk.new).told ≡ (D.seen disk.old).told }
     ensures number { IfOk result (λ number. IsTrue (is_file_number number)) }
@@ -43,7 +43,8 @@ pub(crate) fn read_current<D: Disk>(disk: &mut D, dir: &Path) -> Result<u64, Fol
     }
 }
 
-// The number of the manifest that a text of `CURRENT` names. A longer text than any lawful one isn't read.
+// The number of the manifest that a text of `CURRENT` names. A longer text than any lawful one
+// isn't read.
 fn read_name<V: View>(view: &mut V) -> Result<u64, FolderError>
     ensures number { IfOk result (λ number. IsTrue (is_file_number number)) }
     ensures answer { (text : List ℕ) → Tells (V.viewed view.old) text

@@ -6,9 +6,9 @@ use lsm_bytes::NoMemory as OutOfMemory;
 use lsm_disk::{DiskCall, DiskError, DiskRefusal};
 use lsm_names::{FileName, Path};
 
-/// Why a folder could not be read from a disk: the first trouble, where `CURRENT` is read first, then the manifest, then the
-/// version's tables by their numbers, and then the logs by theirs, each from its start on. Places and lengths are counted in
-/// bytes, places from the file's start.
+/// Why a folder could not be read from a disk: the first trouble, where `CURRENT` is read first,
+/// then the manifest, then the version's tables by their numbers, and then the logs by theirs, each
+/// from its start on. Places and lengths are counted in bytes, places from the file's start.
 #[derive(Clone, Copy, Debug, PartialEq, Eq)]
 pub enum FolderError {
     /// The disk, or a view of it, failed.
@@ -25,7 +25,8 @@ pub enum FolderError {
     Missing {
         name: FileName,
     },
-    /// A disk call was refused in a way that says that the folder has changed since the call before it.
+    /// A disk call was refused in a way that says that the folder has changed since the call before
+    /// it.
     Changed {
         call: DiskCall,
         path: Path,
@@ -36,8 +37,8 @@ pub enum FolderError {
         kept: u64,
         found: u64,
     },
-    /// What begins here is whole, and its checksum differs: the one that it keeps, and the one that its bytes have, both
-    /// masked.
+    /// What begins here is whole, and its checksum differs: the one that it keeps, and the one that
+    /// its bytes have, both masked.
     Damaged {
         name: FileName,
         place: u64,
@@ -60,7 +61,8 @@ pub enum FolderError {
         kept: u64,
         found: u64,
     },
-    /// An edit would leave two tables of a level from 1 on that overlap, `left` with the smaller number.
+    /// An edit would leave two tables of a level from 1 on that overlap, `left` with the smaller
+    /// number.
     BadLevels {
         level: u8,
         left: u64,
@@ -80,8 +82,8 @@ impl From<OutOfMemory> for FolderError {
     }
 }
 
-// How a refused disk call is told, where `missing` says that its file or folder isn't there.
-pub(crate) fn error_by(missing: FolderError, refused: DiskRefusal) -> FolderError
+/// How a refused disk call is told, where `missing` says that its file or folder isn't there.
+pub fn error_by(missing: FolderError, refused: DiskRefusal) -> FolderError
     ensures { result ≡ error_by missing refused }
 {
     let at = refused.at;

@@ -32,27 +32,32 @@ pub struct Found {
     pub version: Version,
     /// The number from which on logs are needed.
     pub log: u64,
-    /// The next file number: the manifest's, or one past the greatest number among the names of the folder's files.
+    /// The next file number: the manifest's, or one past the greatest number among the names of the
+    /// folder's files.
     pub next: u64,
     /// The names of a store's files that stand in the folder, in the order of their bytes.
     pub names: Known,
 }
 
-/// Reads a store's folder, whose path has at most 130 bytes, and writes nothing. `CURRENT` is read first, then the manifest
-/// that it names, then each table of the version by its number, one data block at a time, and then each log by its number;
-/// the first trouble is answered. Views are closed again. Memory grows with the keys, with their newest values, with the
-/// rows of the logs and with the index of one table.
+/// Reads a store's folder, whose path has at most 130 bytes, and writes nothing. `CURRENT` is read
+/// first, then the manifest that it names, then each table of the version by its number, one data
+/// block at a time, and then each log by its number; the first trouble is answered. Views are
+/// closed again. Memory grows with the keys, with their newest values, with the rows of the logs
+/// and with the index of one table.
 pub fn read_folder<D: Disk>(alloc: Global, disk: &mut D, dir: &Path) -> Result<Found, FolderError>
     requires { length dir.now + 30 ≤ 160 }
     ensures told { (D.seen disk.new).told ≡ (D.seen disk.old).told }
 
-    // Where the disk tells, the answer is what the folder reads as, or its first refusal, and it has not changed.
+    // Where the disk tells, the answer is what the folder reads as, or its first refusal, and it
+    // has not changed.
     ensures answer { IfSome (D.seen disk.old).told (λ story. AnswersShown (reading (place_now dir.now story)) result) }
 
     // What else is found is what the folder's manifest and its listing say.
-    ensures found { IfOk result (λ found. IfSome (D.seen disk.old).told (λ story. IsOfFolder dir.now story found)) }
+    ensures found { IfOk result (λ found. IfSome (D.seen disk.old).told (λ story.
+        IsOfFolder dir.now story found.version found.log found.next found.names)) }
 
-    // On every disk a fault raised the count of faults, and what isn't there or has changed raised that of refusals.
+    // On every disk a fault raised the count of faults, and what isn't there or has changed raised
+    // that of refusals.
     ensures cause { HasFolderCause dir.now (D.seen disk.old) (D.seen disk.new) result }
 {
     let head = read_head(alloc, disk, dir)?;

@@ -53,6 +53,13 @@ impl Known {
         &self.items
     }
 
+    /// The names as a `Vec`. It takes no memory.
+    pub fn into_vec(self) -> Vec<FileName>
+        ensures { result.items ≡ self }
+    {
+        self.items
+    }
+
     /// Adds a name at the end.
     pub fn push(&mut self, name: FileName) -> Result<(), NoMemory>
         ensures ok { OnOk result (self.new ≡ self.old ++ name ∷ []) }

@@ -1,4 +1,5 @@
-//! What a folder's listing tells: its logs in the order of their numbers, the names of its files, and the next number.
+//! What a folder's listing tells: its logs in the order of their numbers, the names of its files,
+//! and the next number.
 ghost use Rattle.std.specs.Prelude.{◌≡◌, ◌≤◌, ◌+◌, ◌<◌, ◌^◌, ◌∷◌, ◌++◌, [], Some, OnOk, IfOk, IfSome, IsTrue};
 ghost use Rattle.lsm_names.specs.FileNames.{is_file_number, IsFileName};
 ghost use Rattle.lsm_folder.specs.Names.{name_of, number_of};
@@ -48,7 +49,7 @@ fn log_named(least: u64, text: &[u8]) -> Option<u64>
 }
 
 // The file name that a text is.
-fn name_of(text: &[u8]) -> Option<FileName>
+pub(crate) fn name_of(text: &[u8]) -> Option<FileName>
     ensures is { result ≡ name_of text.now }
     ensures number { IfSome result IsFileName }
 {
@@ -108,7 +109,8 @@ fn push_name(names: &mut Known, entry: &Entry) -> Result<(), NoMemory>
     }
 }
 
-// The next file number, which is no smaller than this one and behind that of each file name among the entries.
+// The next file number, which is no smaller than this one and behind that of each file name among
+// the entries.
 pub(crate) fn next_number(next: u64, entries: &[Entry]) -> u64
     ensures { result ≡ next_number next entries.now }
 {

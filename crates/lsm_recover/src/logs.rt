@@ -30,7 +30,8 @@ struct Taken {
     torn: Option<u64>,
 }
 
-// Adds the rows of all logs from a number on, whose first batch comes behind a sequence, and gives the last sequence.
+// Adds the rows of all logs from a number on, whose first batch comes behind a sequence, and gives
+// the last sequence.
 pub(crate) fn read_logs<D: Disk>(
     alloc: Global,
     disk: &mut D,
@@ -99,7 +100,8 @@ fn read_log<D: Disk>(
     }
 }
 
-// Adds the rows of the batches that a log was read to, which come behind a sequence, unless its torn end hinders.
+// Adds the rows of the batches that a log was read to, which come behind a sequence, unless its
+// torn end hinders.
 fn take_log(
     alloc: Global,
     name: FileName,

@@ -114,7 +114,8 @@ fn read_edit(
     ensures ok { IfOk result (λ now. (edits : List Edit) → IsStated edits stated → (more : List Edit)
         × (said_so_far name place text.now edits ≡ Ok more) × AreStated more now) }
     ensures sound { IfOk result IsSound }
-    ensures refused { IfErr result (λ e. (edits : List Edit) → IsStated edits stated → IsRefusedBy (said_so_far name place text.now edits) e) }
+    ensures refused { IfErr result (λ e. (edits : List Edit) → IsStated edits stated
+        → IsRefusedBy (said_so_far name place text.now edits) e) }
     ensures inside { IfErr result IsOfBytes }
 {
     let edit = edit_of(alloc, name, place, text)?;
@@ -147,7 +148,8 @@ fn with_edit(
     ensures ok { IfOk result (λ now. (edits : List Edit) → IsStated edits stated
         → (with_edit name place edits edit.now ≡ Ok (edits ++ edit.now ∷ [])) × AreStated (edits ++ edit.now ∷ []) now) }
     ensures sound { IfOk result IsSound }
-    ensures refused { IfErr result (λ e. (edits : List Edit) → IsStated edits stated → IsRefusedBy (with_edit name place edits edit.now) e) }
+    ensures refused { IfErr result (λ e. (edits : List Edit) → IsStated edits stated
+        → IsRefusedBy (with_edit name place edits edit.now) e) }
     ensures inside { IfErr result IsOfBytes }
 {
     match stated {
@@ -194,7 +196,8 @@ fn next_stated(
     ensures ok { IfOk result (λ now. (edits : List Edit) → AreStated edits stated
         → (with_edit name place edits edit.now ≡ Ok (edits ++ edit.now ∷ [])) × AreStated (edits ++ edit.now ∷ []) now) }
     ensures sound { IfOk result IsSound }
-    ensures refused { IfErr result (λ e. (edits : List Edit) → AreStated edits stated → IsRefusedBy (with_edit name place edits edit.now) e) }
+    ensures refused { IfErr result (λ e. (edits : List Edit) → AreStated edits stated
+        → IsRefusedBy (with_edit name place edits edit.now) e) }
     ensures inside { IfErr result IsOfBytes }
 {
     let version = apply(alloc, name, place, &stated.version, edit)?;

@@ -41,7 +41,8 @@ impl NewestRows {
         }
     }
 
-    /// Adds a row. Of rows of one key and one sequence the first counts. After an error the row counts in part.
+    /// Adds a row. Of rows of one key and one sequence the first counts. After an error the row
+    /// counts in part.
     #[tactic(auto, unfolding(crate::specs::Gathered::with_row))]
     pub(crate) fn add(&mut self, row: &Row) -> Result<(), NoMemory>
         ensures { OnOk result (self.new ≡ with_row self.old row.now) }
@@ -75,7 +76,8 @@ impl NewestRows {
 
 // Whether a row is newer than the newest of its key.
 fn is_newer(sequences: &BTreeMap<Bytes, u64>, row: &Row) -> bool
-    ensures { result ≡ is_newer (finmap.get {R = key_cmp} (finmap.from_entries sequences.now.entries) row.now.key) row.now.sequence }
+    ensures { result ≡ is_newer (finmap.get {R = key_cmp} (finmap.from_entries sequences.now.entries) row.now.key)
+        row.now.sequence }
 {
     match sequences.get(&row.key) {
         Some(newest) => *newest < row.sequence,

@@ -9,7 +9,7 @@ ghost use Rattle.lsm_disk.specs.Refusals.{no_file};
 ghost use Rattle.lsm_disk.specs.Answers.{RefusesBy, HasDiskCause};
 ghost use Rattle.lsm_frame.specs.Reader.{Tells};
 ghost use Rattle.lsm_recover.specs.Answers.{IsRefusedBy, place_now};
-ghost use Rattle.lsm_recover.specs.Causes.{HasFolderCause};
+ghost use Rattle.lsm_recover.specs.Causes.{HasFolderCause, IsOfReading};
 ghost use Rattle.lsm_recover.specs.Listed.{IsListing};
 ghost use Rattle.lsm_recover.specs.Head.{edits_there};
 
@@ -33,6 +33,7 @@ pub(crate) fn file_path(dir: &Path, name: FileName) -> Path
 
 fn refusal(call: DiskCall, path: &Path, why: DiskError) -> DiskRefusal
     ensures why { result.why ≡ why }
+    ensures made { result.at.call ≡ call }
 {
     DiskRefusal {
         at: Halt { call, path: *path },
@@ -47,8 +48,10 @@ pub(crate) fn open_whole<D: Disk>(disk: &mut D, path: &Path) -> Result<D::View, 
     ensures tells { IfOk result (λ view. IfSome (D.seen disk.old).told
         (λ story. Tells (D.View.viewed view) (bytes_of (file_now path.now (state_of story))))) }
     ensures fresh { IfOk result (λ view. (D.View.viewed view).faults ≡ 0) }
-    ensures refused { IfErr result (λ r. IfSome (D.seen disk.old).told (λ story. RefusesBy (no_file path.now (state_of story)) r.why)) }
+    ensures refused { IfErr result (λ r. IfSome (D.seen disk.old).told (λ story.
+        RefusesBy (no_file path.now (state_of story)) r.why)) }
     ensures cause { HasDiskCause (D.seen disk.old) (D.seen disk.new) result }
+    ensures made { IfErr result (λ r. IsOfReading r.at.call) }
 {
     match disk.size(path) {
         Ok(size) => match disk.open(path, size) {
@@ -63,7 +66,8 @@ pub(crate) fn open_whole<D: Disk>(disk: &mut D, path: &Path) -> Result<D::View, 
 pub(crate) fn list_folder<D: Disk>(disk: &mut D, dir: &Path) -> Result<Listing, FolderError>
     ensures told { (D.seen disk.new).told ≡ (D.seen disk.old).told }
     ensures folder { IfOk result (λ entries. IfSome (D.seen disk.old).told (λ story. IsListing dir.now story entries)) }
-    ensures refused { IfErr result (λ e. IfSome (D.seen disk.old).told (λ story. IsRefusedBy (edits_there (place_now dir.now story)) e)) }
+    ensures refused { IfErr result (λ e. IfSome (D.seen disk.old).told (λ story.
+        IsRefusedBy (edits_there (place_now dir.now story)) e)) }
     ensures cause { HasFolderCause dir.now (D.seen disk.old) (D.seen disk.new) result }
 {
     match disk.list(dir) {

@@ -7,7 +7,8 @@ use lsm_bytes::NoMemory;
 use lsm_rows::{Batch, Op, Row, Rows};
 use std::alloc::Global;
 
-// Adds the rows of batches, whose sequences come behind this one. After an error some of them are there.
+// Adds the rows of batches, whose sequences come behind this one. After an error some of them are
+// there.
 pub(crate) fn push_batches(
     alloc: Global,
     rows: &mut Rows,

@@ -19,8 +19,9 @@ use lsm_table::{Properties, Table, TableFault, rows_of};
 use lsm_version::{Placed, TableInfo, Version};
 use std::alloc::Global;
 
-// How far before a table's end its properties begin, in bytes: 41 of their own, and the footer's 36.
-const PROPERTIES_BEFORE_END: u64 = 77;
+// How far before a table's end its properties begin, in bytes: 41 of their own, and the footer's
+// 36.
+pub(crate) const PROPERTIES_BEFORE_END: u64 = 77;
 
 // Gathers the rows of all tables of a version.
 pub(crate) fn read_tables<D: Disk>(
@@ -86,7 +87,8 @@ fn read_whole<V: View>(
     info: &TableInfo,
     rows: &mut NewestRows,
 ) -> Walked<V>
-    ensures answer { (text : List ℕ) → Tells (V.viewed view) text → AnswersTable (table_said number info.now text) rows.old rows.new result.read }
+    ensures answer { (text : List ℕ) → Tells (V.viewed view) text
+        → AnswersTable (table_said number info.now text) rows.old rows.new result.read }
     ensures view { Stays (V.viewed view) (V.viewed result.view) }
     ensures cause { IfErr result.read (HasRisenIn (V.viewed view) (V.viewed result.view)) }
 {
@@ -109,7 +111,7 @@ fn read_whole<V: View>(
             }
         }
         Err(error) => Walked {
-            read: Err(error_of(name, error.why)),
+            read: Err(table_error(name, error.why)),
             view: error.view,
         },
     }
@@ -124,7 +126,8 @@ fn read_rows<V: View>(
     rows: &mut NewestRows,
 ) -> Result<(), FolderError>
     requires { table.old.viewed.len ≡ info.now.size }
-    ensures answer { (text : List ℕ) → Tells table.old.viewed text → AnswersTable (table_said number info.now text) rows.old rows.new result }
+    ensures answer { (text : List ℕ) → Tells table.old.viewed text
+        → AnswersTable (table_said number info.now text) rows.old rows.new result }
     ensures view { Stays table.old.viewed table.new.viewed }
     ensures cause { IfErr result (HasRisenIn table.old.viewed table.new.viewed) }
 {
@@ -137,14 +140,14 @@ fn read_rows<V: View>(
 }
 
 // Whether properties are of the table of a number that a version has so.
-fn is_of(number: u64, info: &TableInfo, properties: Properties) -> bool
+pub(crate) fn is_of(number: u64, info: &TableInfo, properties: Properties) -> bool
     ensures { result ≡ is_of number info.now properties }
 {
     properties.number == number && properties.session == info.session
 }
 
 // How a table's fault is told of its folder.
-fn error_of(name: FileName, fault: TableFault) -> FolderError
+pub(crate) fn table_error(name: FileName, fault: TableFault) -> FolderError
     ensures { result ≡ table_error name fault }
 {
     match fault {
@@ -169,7 +172,8 @@ fn walk<V: View>(
 ) -> Result<(), FolderError>
     ensures whole { OnOk result ((text : List ℕ) → Tells table.old.viewed text
         → HasGathered text table.old.index (length table.old.index) rows.old rows.new) }
-    ensures stopped { IfErr result (λ e. (text : List ℕ) → Tells table.old.viewed text → IsWalkTrouble name text table.old.index e) }
+    ensures stopped { IfErr result (λ e. (text : List ℕ) → Tells table.old.viewed text
+        → IsWalkTrouble name text table.old.index e) }
     ensures view { Stays table.old.viewed table.new.viewed }
     ensures cause { IfErr result (HasRisenIn table.old.viewed table.new.viewed) }
 {
@@ -188,8 +192,10 @@ fn read_nth<V: View>(
     rows: &mut NewestRows,
 ) -> Result<(), FolderError>
     requires { nth < length table.old.index }
-    ensures read { OnOk result ((text : List ℕ) → Tells table.old.viewed text → GathersBlock text table.old.index nth rows.old rows.new) }
-    ensures trouble { IfErr result (λ e. (text : List ℕ) → Tells table.old.viewed text → IsBlockTrouble name text table.old.index nth e) }
+    ensures read { OnOk result ((text : List ℕ) → Tells table.old.viewed text
+        → GathersBlock text table.old.index nth rows.old rows.new) }
+    ensures trouble { IfErr result (λ e. (text : List ℕ) → Tells table.old.viewed text
+        → IsBlockTrouble name text table.old.index nth e) }
     ensures index { table.new.index ≡ table.old.index }
     ensures view { Stays table.old.viewed table.new.viewed }
     ensures cause { IfErr result (HasRisenIn table.old.viewed table.new.viewed) }
@@ -200,6 +206,6 @@ fn read_nth<V: View>(
             rows.add_all(found.as_slice())?;
             Ok(())
         }
-        Err(fault) => Err(error_of(name, fault)),
+        Err(fault) => Err(table_error(name, fault)),
     }
 }

@@ -155,6 +155,8 @@ next_free v s first next is good = record {
       };
       now = same (length s.accepted) (tree_now (state_of good.story)) is.now;
       images = λ tree i. same s.durable tree (is.images tree i);
+      files = is.files;
+      synced = is.synced;
     }
 
 -- ---- what the store knows

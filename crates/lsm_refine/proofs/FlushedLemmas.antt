@@ -121,10 +121,10 @@ module _ (least : ℕ) (A N B : List Row) (low : AllBefore least (A ++ B))
 
 -- ---- distinct sequences
 
-abbrev IsNot : ℕ → ℕ → Type 0
+abbrev pub IsNot : ℕ → ℕ → Type 0
 IsNot x y = nat_eq x y ≡ false
 
-each_left : (x : ℕ) (xs ys : List ℕ) → AllByRecursion (IsNot x) (xs ++ ys) → AllByRecursion (IsNot x) xs
+pub each_left : (x : ℕ) (xs ys : List ℕ) → AllByRecursion (IsNot x) (xs ++ ys) → AllByRecursion (IsNot x) xs
 each_left x [] ys each = tt
 each_left x (y ∷ xs) ys each = (each.0, each_left x xs ys each.1)
 
@@ -261,7 +261,7 @@ other_is k n other = grind (arith, nat_tests)
 tied_other : (q k : ℕ) → q ≢ k → eq_by_cmp nat_cmp q k ≡ false
 tied_other q k other = grind (arith, nat_tests)
 
-tied_same : (q k : ℕ) → q ≡ k → eq_by_cmp nat_cmp q k ≡ true
+pub tied_same : (q k : ℕ) → q ≡ k → eq_by_cmp nat_cmp q k ≡ true
 tied_same q k same = grind (arith, nat_tests)
 
 not_first : (q : ℕ) (e : ℕ × Placed) (es : List (ℕ × Placed)) → finmap.find nat_cmp q (e ∷ es) ≡ None
@@ -330,6 +330,22 @@ both_bounds low high (r ∷ rows) from most =
 some_same : (a b : Placed) → Some a ≡ Some b → a ≡ b
 some_same a b same = cc
 
+-- the greatest sequence of the rows of batches is the last one of these
+pub last_of_rows : (before last : ℕ) (batches : List (List Op)) (frozen : List Row) → AreRowsOf (before + 1) batches frozen
+    → IsLastOf last frozen → last ≡ sequence_after before batches
+last_of_rows before last batches frozen are greatest =
+    let from : All (λ (row : Row). before + 1 ≤ row.sequence) frozen =
+    All-permutation (λ (row : Row). before + 1 ≤ row.sequence) (rows_of (before + 1) batches) frozen are.same
+    (rows_from (before + 1) batches) in
+    let low = All-contains (λ (row : Row). before + 1 ≤ row.sequence) frozen greatest.row from greatest.among in
+    let up = rows_up_to (before + 1) last batches (omega (arith, low, greatest.is))
+    (All-permutation (λ (row : Row). row.sequence ≤ last) frozen (rows_of (before + 1) batches)
+    (IsPermutation-sym (rows_of (before + 1) batches) frozen are.same) greatest.most) in
+    let most = All-contains (λ (row : Row). row.sequence < sequence_after (before + 1) batches) frozen greatest.row
+    (All-permutation (λ (row : Row). row.sequence < sequence_after (before + 1) batches) (rows_of (before + 1) batches) frozen
+    are.same (rows_below (before + 1) batches)) greatest.among in
+    omega (arith, sequence_next before batches, up, most, greatest.is)
+
 -- ---- the frozen rows are in a table
 
 module _ (parts : Parts) (lawful : AreLawful parts.edits parts.rows) (frozen : List Row)
@@ -382,16 +398,7 @@ module _ (parts : Parts) (lawful : AreLawful parts.edits parts.rows) (frozen : L
 
   -- the greatest sequence of the frozen rows is the last one of the older logs
   pub last_is : last ≡ sequence_after (last_after parts.edits) (batches_in parts.older)
-  last_is =
-      let next : sequence_after first older
-      ≡ sequence_after (last_after parts.edits) older + 1 = sequence_next (last_after parts.edits) older in
-      let up = rows_up_to first last older (omega (arith, low))
-      (All-permutation (λ (row : Row). row.sequence ≤ last) frozen (rows_of first older)
-      (IsPermutation-sym (rows_of first older) frozen frozen_are.same) greatest.most) in
-      let most = All-contains (λ (row : Row). row.sequence < sequence_after first older) frozen greatest.row
-      (All-permutation (λ (row : Row). row.sequence < sequence_after first older) (rows_of first older) frozen frozen_are.same
-      (rows_below first older)) greatest.among in
-      omega (arith, next, up, most, greatest.is)
+  last_is = last_of_rows (last_after parts.edits) last older frozen frozen_are greatest
 
   -- ---- where the table stands among the others
 
@@ -423,8 +430,10 @@ module _ (parts : Parts) (lawful : AreLawful parts.edits parts.rows) (frozen : L
   old_before : AllBefore first (rows_in among.before ++ rows_in among.behind)
   old_before = subst (AllBefore first) old_are (tables_before parts lawful)
 
-  newest_same : (key : List ℕ)
-      → newest key (rows_of_tables (tables_after edits) with) ≡ newest key (old_rows ++ rows_of first older)
+  -- the new tables show what the old ones did with the older logs
+  pub newest_same : (key : List ℕ)
+      → newest key (rows_of_tables (tables_after edits) (rows_with info.number new parts.rows))
+      ≡ newest key (rows_of_tables (tables_after parts.edits) parts.rows ++ rows_of (first_logged parts) (batches_in parts.older))
   newest_same key =
       ap (newest key) rows_are
       ∙ newest_moved first (rows_in among.before) new (rows_in among.behind) old_before new_from key

@@ -19,17 +19,19 @@ use Rattle.lsm_model.specs.Reads.{known_reading}
 use Rattle.lsm_model.specs.Crashes.{KeepsSure, closed}
 use Rattle.lsm_refine.specs.Kept.{Shown}
 use Rattle.lsm_refine.specs.Pins.{AreClearable}
+use Rattle.lsm_refine.specs.Sane.{TablesAreSynced}
 use Rattle.lsm_refine.specs.Folders.{StandsFrom, FoldersAre, IsSure, folder_reading}
 use Rattle.lsm_refine.specs.Good.{Good}
 use Rattle.lsm_refine.specs.Settled.{IsSettled}
-use Rattle.lsm_refine.specs.Openings.{Holds, As_store, As_fresh, HoldsFrom, IsClearable, HoldsAs, IsLeftOf, IsFound}
+use Rattle.lsm_refine.specs.Openings.{Holds, As_store, As_fresh, HasOnlyFiles, HoldsFrom, IsClearable, HoldsAs, IsLeftOf, IsFound}
 use Rattle.lsm_refine.proofs.CrashLemmas.{listed, folders_in, folders_are, keeps_sure, after_crash, stands_after, crashed, image_reads}
-use Rattle.lsm_refine.proofs.GoodLemmas.{good_image, good_now}
+use Rattle.lsm_refine.proofs.GoodLemmas.{good_image, good_now, good_files, good_synced}
 use Rattle.lsm_refine.proofs.SettledLemmas.{none_pending, one_image}
+use Rattle.lsm_refine.proofs.TableSyncs.{all_synced, image_files}
 
 -- ---- places of checkpoints
 
-clear_image : (d : disk.State) → AreClearable d → (t : Tree) → IsImage d t → IsClearable t.names
+pub clear_image : (d : disk.State) → AreClearable d → (t : Tree) → IsImage d t → IsClearable t.names
 clear_image d clear t image = record {
   no_file = λ dir id named is. clear.no_file dir image.kept id named
       (ap (λ (names : Names). finmap.get names (built_in dir)) (sym image.names) ∙ is);
@@ -49,6 +51,10 @@ clear_settled d settled clear = record {
 
 -- ---- what a crash leaves of a good store
 
+good_only : (v : Shown) (s : State) (good : Good v s) (t : Tree) → IsImage (state_of good.story) t → HasOnlyFiles s.own t.names
+good_only v s good t image = subst (λ (dir : List ℕ). HasOnlyFiles dir t.names) good.kept.own
+    (image_files (state_of good.story) v.dir (good_files v s good) t image)
+
 pub good_leaves : (v : Shown) (s : State) (good : Good v s) (t : Tree) → IsImage (state_of good.story) t → IsLeftOf s t
 good_leaves v s good t image =
     let left = image_reads v s good t image in
@@ -57,6 +63,8 @@ good_leaves v s good t image =
       crashed = left.1;
       holds = record {
         own = As_store left.2.own;
+        files = subst (λ (dir : List ℕ). HasOnlyFiles dir t.names) (sym (ap (λ (q : State). q.own) left.1.rest))
+            (good_only v s good t image);
         others = left.2.others;
         clear = clear_image (state_of good.story) good.clear t image;
       };
@@ -67,6 +75,7 @@ pub good_found : (v : Shown) (s : State) (good : Good v s) → IsFound (state_of
 good_found v s good = record {
   now = with_tables (length s.accepted) (tree_now (state_of good.story)) (reads_image (state_of good.story)) (good_now v s good);
   images = λ t image. with_tables s.durable t image (good_image v s good t image);
+  synced = subst (TablesAreSynced (state_of good.story)) good.kept.own (good_synced v s good);
   folders = good.folders;
   clear = good.clear;
 }
@@ -77,18 +86,27 @@ good_found v s good = record {
       enough = front.enough;
       within = front.within;
       holds = As_store front.stands;
+      files = good_only v s good t image;
     }
 
 -- ---- what a crash leaves of what is found
 
 module _ (d : disk.State) (s : State) (found : IsFound d s) (t : Tree) (image : IsImage d t) where
+  only : HasOnlyFiles s.own t.names
+  only = (found.images t image).files
+
   by_holds : (count : ℕ) → s.durable ≤ count → count ≤ length (written s) → Holds s t count → IsLeftOf s t
   by_holds count enough within (As_store stands) =
       let front : StandsFrom s s.durable t = record { count = count; enough = enough; within = within; stands = stands } in
       record {
         left = after_crash s t front;
         crashed = crashed s t front d image found.folders;
-        holds = record { own = As_store (stands_after s t front); others = folders_are s t; clear = clear_image d found.clear t image };
+        holds = record {
+          own = As_store (stands_after s t front);
+          files = only;
+          others = folders_are s t;
+          clear = clear_image d found.clear t image;
+        };
       }
   by_holds count enough within (As_fresh fresh none) = record {
     left = record (closed s) { accepted = []; durable = 0; folders = folders_in s t };
@@ -102,6 +120,7 @@ module _ (d : disk.State) (s : State) (found : IsFound d s) (t : Tree) (image : 
     };
     holds = record {
       own = As_fresh fresh (record { opening = none.opening; began = none.began; none = refl });
+      files = only;
       others = folders_are s t;
       clear = clear_image d found.clear t image;
     };
@@ -132,6 +151,7 @@ pub left_found : (d : disk.State) (s : State) → IsSettled d → HoldsAs (tree_
 left_found d s settled holds durable = record {
   now = front (length s.accepted) (omega arith);
   images = λ t image. subst (HoldsFrom s s.durable) (sym (one_image d settled t image)) (front s.durable durable);
+  synced = all_synced d s.own settled.files;
   folders = record { now = holds.others; sure = λ name folder found is. settled_sure d settled s.own s.folders holds.others name folder found };
   clear = clear_settled d settled holds.clear;
 }
@@ -142,6 +162,7 @@ left_found d s settled holds durable = record {
       enough = few;
       within = omega (arith, length-append s.accepted (none_or_one s.doubtful));
       holds = holds.own;
+      files = holds.files;
     }
 
 -- ---- marks
@@ -218,6 +239,7 @@ module _ (s : State) (t : Tree) (is : IsLeftOf s t) where
     };
     holds = record {
       own = held_by is.holds.own;
+      files = is.holds.files;
       others = folders_marked is.left.own is.left.folders t is.holds.others;
       clear = is.holds.clear;
     };

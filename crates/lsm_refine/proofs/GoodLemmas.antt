@@ -26,8 +26,10 @@ use Rattle.lsm_refine.specs.Fronts.{logs_with, last_text, batches_with}
 use Rattle.lsm_refine.specs.Folders.{StandsFor, StandsFrom}
 use Rattle.lsm_refine.specs.Good.{IsRunning, IsInMode, Good}
 use Rattle.lsm_refine.specs.Beside.{HasLast, IsReadable}
+use Rattle.lsm_refine.specs.Sane.{AreFiles, TablesAreSynced}
 use Rattle.lsm_refine.proofs.TiedLemmas.{logged_many, tied_reads}
 use Rattle.lsm_refine.proofs.PartsLemmas.{readable, first_in, all_in}
+use Rattle.lsm_refine.proofs.TableSyncs.{readable_synced}
 
 -- a state without a doubtful batch has written what it accepted
 certain_is : (s : State) → s.doubtful ≡ None → written s ≡ s.accepted
@@ -125,3 +127,19 @@ module _ (v : Shown) (s : State) (good : Good v s) where
   -- now the folder stands for the accepted batches, perhaps with the doubtful one
   pub good_now : StandsFrom s (length s.accepted) (tree_now (state_of good.story))
   good_now = by_now v.halt good.mode
+
+  -- no folder stands under a file's name in it, and the tables that its manifest names are synced
+  pub good_files : AreFiles (state_of good.story) v.dir
+  good_files = by_mode v.halt good.mode
+    where
+      by_mode : (halt : Option Halt) → IsInMode halt (state_of good.story) v s → AreFiles (state_of good.story) v.dir
+      by_mode None is = is.sane.files
+      by_mode (Some first) is = is.files
+
+  pub good_synced : TablesAreSynced (state_of good.story) v.dir
+  good_synced = by_mode v.halt good.mode
+    where
+      by_mode : (halt : Option Halt) → IsInMode halt (state_of good.story) v s → TablesAreSynced (state_of good.story) v.dir
+      by_mode None is = readable_synced (state_of good.story) v.dir v.kept is.parts
+          (readable (state_of good.story) v.dir v.kept is.parts is.sane)
+      by_mode (Some first) is = is.synced

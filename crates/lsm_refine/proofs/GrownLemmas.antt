@@ -56,6 +56,7 @@ use Rattle.lsm_refine.proofs.LastLogLemmas.{numbers_push}
 use Rattle.lsm_refine.proofs.MomentLemmas.{crash_reads}
 use Rattle.lsm_refine.proofs.OutsideLemmas.{sure_contents}
 use Rattle.lsm_refine.proofs.PartsLemmas.{readable_beside, first_of}
+use Rattle.lsm_refine.proofs.TableSyncs.{readable_synced}
 use Rattle.lsm_refine.proofs.PinnedLemmas.{pins_fit}
 use Rattle.lsm_refine.proofs.ShownLemmas.{rows_both}
 use Rattle.lsm_refine.proofs.TiedLemmas.{logged_many}
@@ -285,6 +286,9 @@ module _ (v : Shown) (s : State) (good : Good v s) (run : IsRunning (state_of go
             (stands x writes (tree_now x) (reads_image x) (length parts.last.batches) (synced_few v s good run)
             (omega (arith, more_many)) held);
         images = λ t i. shows_front x writes t i (torn_image x path batches next parts.synced torn t i);
+        files = all.sane.files;
+        synced = readable_synced x v.dir v.kept parts (readable_beside x v.dir v.kept parts (Log parts.last.number) all.sane
+            (λ same. cc));
         pinned = all.pinned;
         folders = folders_beside v s good run x writes;
         clear = all.clear;

@@ -11,7 +11,7 @@ use Rattle.lsm_model.specs.declared.states.State.{State}
 use Rattle.lsm_model.specs.declared.states.Pin.{Pin}
 use Rattle.lsm_refine.specs.Kept.{Shown}
 use Rattle.lsm_refine.specs.Pins.{AreClearable, PinFiles}
-use Rattle.lsm_refine.specs.Sane.{HasTables}
+use Rattle.lsm_refine.specs.Sane.{HasTables, AreFiles, TablesAreSynced}
 use Rattle.lsm_refine.specs.Folders.{StandsFrom, FoldersRead}
 use Rattle.lsm_refine.specs.Good.{IsRunning, IsHalted, Good}
 use Rattle.lsm_refine.specs.Grown.{IsLeftHalted, halted_shown, halted_state}
@@ -31,11 +31,13 @@ stands_less s least fewer t less is = record {
 pub left_same : (x : disk.State) (v : Shown) (rows : ℕ → List Row) (s : State) → HasTables x v.dir v.kept rows
     → StandsFrom s (length s.accepted) (tree_now x)
     → ((t : Tree) → IsImage x t → StandsFrom s s.durable t) → All (λ (pin : Pin). PinFiles x v.dir pin.files) s.pins
-    → FoldersRead x s → AreClearable x → IsLeftHalted x v rows s s.doubtful
-left_same x v rows s tables now images pinned folders clear = record {
+    → FoldersRead x s → AreClearable x → AreFiles x v.dir → TablesAreSynced x v.dir → IsLeftHalted x v rows s s.doubtful
+left_same x v rows s tables now images pinned folders clear files synced = record {
   tables = tables;
   now = same (length s.accepted) (tree_now x) now;
   images = λ t i. same s.durable t (images t i);
+  files = files;
+  synced = synced;
   pinned = pinned;
   folders = folders;
   clear = clear;
@@ -86,6 +88,8 @@ module _ (v : Shown) (s : State) (good : Good v s) (run : IsRunning (state_of go
         };
         now = as_halted (length s.accepted) (tree_now x) left.now;
         images = λ tree i. as_halted s.durable tree (left.images tree i);
+        files = left.files;
+        synced = left.synced;
       }
 
   -- it is good for the state that the call halted

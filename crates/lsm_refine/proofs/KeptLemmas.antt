@@ -16,7 +16,7 @@ use Rattle.lsm_folder.specs.Needed.{Stands}
 use Rattle.lsm_model.specs.declared.states.State.{State}
 use Rattle.lsm_model.specs.States.{written}
 use Rattle.lsm_refine.specs.Folders.{StandsFor, FoldersAre, AreAlikeOutside}
-use Rattle.lsm_refine.specs.Openings.{IsUnwritten, Holds, As_store, As_fresh, IsClearable, IsLeftOf, IsFound, StandsAs, IsAsBefore, Same, Still_fresh, Made, IsKeptImage, LosesNothing}
+use Rattle.lsm_refine.specs.Openings.{IsUnwritten, Holds, As_store, As_fresh, HasOnlyFiles, IsClearable, IsLeftOf, IsFound, StandsAs, IsAsBefore, Same, Still_fresh, Made, IsKeptImage, LosesNothing}
 use Rattle.lsm_refine.proofs.FoundLemmas.{found_leaves}
 use Rattle.lsm_refine.proofs.IdleLemmas.{stands_once, not_fresh}
 use Rattle.lsm_refine.proofs.OutsideLemmas.{folders_alike}
@@ -76,8 +76,9 @@ module _ (s : State) (one other t : Tree) (own : IsLeftOf s one) (others : IsLef
   same_holds (As_store stands) = As_store (record { folder = stands.folder; stands = stands.stands })
   same_holds (As_fresh fresh none) = As_fresh fresh (record { opening = none.opening; began = none.began; none = none.none })
 
-  left_so : IsAsBefore s.own one t → AreAlikeOutside s.own other t → IsClearable t.names → IsLeftOf s t
-  left_so as_before alike clear = record {
+  left_so : IsAsBefore s.own one t → (HasOnlyFiles s.own one.names → HasOnlyFiles s.own t.names)
+      → AreAlikeOutside s.own other t → IsClearable t.names → IsLeftOf s t
+  left_so as_before files alike clear = record {
     left = left;
     crashed = record {
       kept = own.crashed.kept;
@@ -91,6 +92,7 @@ module _ (s : State) (one other t : Tree) (own : IsLeftOf s one) (others : IsLef
       own = same_holds (still_holds own.left one t (length own.left.accepted)
           (subst (λ (dir : List ℕ). 1 ≤ length dir) own_is some) own.holds.own
           (subst (λ (dir : List ℕ). IsAsBefore dir one t) own_is as_before));
+      files = subst (λ (dir : List ℕ). HasOnlyFiles dir one.names → HasOnlyFiles dir t.names) own_is files own.holds.files;
       others = folders_alike own.left.own others.left.folders other t (subst (λ (dir : List ℕ). AreAlikeOutside dir other t) own_is alike)
           (subst (λ (dir : List ℕ). FoldersAre dir others.left.folders other) others_own others.holds.others);
       clear = clear;
@@ -103,6 +105,7 @@ kept_left d s dir t named own found kept =
     left_so s kept.one kept.other t (found_leaves d s found kept.one kept.of) (found_leaves d s found kept.other kept.also)
     (subst (λ (q : List ℕ). 1 ≤ length q) (sym own) (folder_has_bytes dir named))
     (subst (λ (q : List ℕ). IsAsBefore q kept.one t) (sym own) kept.own)
+    (subst (λ (q : List ℕ). HasOnlyFiles q kept.one.names → HasOnlyFiles q t.names) (sym own) kept.files)
     (subst (λ (q : List ℕ). AreAlikeOutside q kept.other t) (sym own) kept.outside) kept.clear
 
 pub kept_loses_nothing : (before : Story) (dir : List ℕ) (told : Option Story) → is_folder_name dir ≡ true

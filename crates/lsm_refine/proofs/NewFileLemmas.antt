@@ -27,7 +27,7 @@ lead_in d change id lead k = record {
 }
 
 -- the names after a sync of names are those of now
-synced_cut : (d : State) (k : ℕ) (path : List ℕ) → finmap.get (cut_names (after d Names_synced) k) path ≡ finmap.get (names_now d) path
+pub synced_cut : (d : State) (k : ℕ) (path : List ℕ) → finmap.get (cut_names (after d Names_synced) k) path ≡ finmap.get (names_now d) path
 synced_cut d k path = ap (λ (ops : List NameOp). finmap.get (all_named ops (names_now d)) path) (take_none k)
 
 module _ (dir : List ℕ) (name : FileName) (named : is_folder_name dir ≡ true) (fits : IsFileName name) (start : State) where

@@ -74,15 +74,15 @@ first_tables : (m : ℕ) → tables_after (first_edit m ∷ []) ≡ empty_versio
 unfolding tables_after
 first_tables m = ap tables_or_none (first_version m)
 
-first_log : (m : ℕ) → log_after (first_edit m ∷ []) ≡ m + 1
+pub first_log : (m : ℕ) → log_after (first_edit m ∷ []) ≡ m + 1
 unfolding log_after numbers_after
 first_log m = refl
 
-first_last : (m : ℕ) → last_after (first_edit m ∷ []) ≡ 0
+pub first_last : (m : ℕ) → last_after (first_edit m ∷ []) ≡ 0
 unfolding last_after numbers_after
 first_last m = refl
 
-first_are : (m : ℕ) → 1 ≤ m → m + 2 < 2 ^ 56 → AreEdits (first_edit m ∷ [])
+pub first_are : (m : ℕ) → 1 ≤ m → m + 2 < 2 ^ 56 → AreEdits (first_edit m ∷ [])
 first_are m least most = record {
   first = refl;
   each = All-cons IsEdit (first_edit m) [] (first_is m least most) (All-nil IsEdit);
@@ -95,16 +95,16 @@ new_lists m beside = ap (λ (es : List (ℕ × Placed)). map table_listed es ++ 
 
 -- ---- it has no table and no row
 
-abbrev no_rows : ℕ → List Row
+abbrev pub no_rows : ℕ → List Row
 no_rows number = []
 
 no_table : {A : Type 0} (number : ℕ) (placed : Placed) → finmap.get empty_version number ≡ Some placed → A
 no_table number placed is = let clash : None ≡ Some placed = sym (finmap.get-empty nat_cmp number) ∙ is in cc
 
-no_first : {A : Type 0} (m number : ℕ) (placed : Placed) → finmap.get (tables_after (first_edit m ∷ [])) number ≡ Some placed → A
+pub no_first : {A : Type 0} (m number : ℕ) (placed : Placed) → finmap.get (tables_after (first_edit m ∷ [])) number ≡ Some placed → A
 no_first m number placed is = no_table number placed (ap (λ (tables : Tables). finmap.get tables number) (sym (first_tables m)) ∙ is)
 
-no_table_rows : (m : ℕ) → rows_of_tables (tables_after (first_edit m ∷ [])) no_rows ≡ []
+pub no_table_rows : (m : ℕ) → rows_of_tables (tables_after (first_edit m ∷ [])) no_rows ≡ []
 no_table_rows m =
     ap (λ (tables : Tables). rows_of_tables tables no_rows) (first_tables m)
     ∙ ap (flat_map (λ (table : ℕ × Placed). no_rows table.0)) no_entries
@@ -112,7 +112,7 @@ no_table_rows m =
 pub no_contents : contents_of [] ≡ finmap.empty
 no_contents = same_contents (contents_of []) finmap.empty (λ key. get_contents [] key ∙ sym (finmap.get-empty key_cmp key))
 
-first_lawful : (m : ℕ) → AreLawful (first_edit m ∷ []) no_rows
+pub first_lawful : (m : ℕ) → AreLawful (first_edit m ∷ []) no_rows
 unfolding IsDistinct
 first_lawful m = record {
   leveled = record {
@@ -123,7 +123,7 @@ first_lawful m = record {
   distinct = subst (λ (rows : List Row). IsDistinct nat_eq (sequences rows)) (sym (no_table_rows m)) tt;
 }
 
-none_of_none : (first : ℕ) → AreRowsOf first [] []
+pub none_of_none : (first : ℕ) → AreRowsOf first [] []
 none_of_none first = record { same = IsPermutation-refl []; newest_is = λ key. refl }
 
 -- ---- its parts

@@ -4,12 +4,12 @@ use Rattle.std.proofs.Common.{⊎_elim, refl, sym, ap, subst, ◌∙◌, arith}
 use Rattle.std.proofs.lemmas.List.Elements.{All-weaker}
 use Rattle.std.specs.FinMap as finmap
 use Rattle.lsm_names.specs.FileNames.{IsFileName}
-use Rattle.lsm_names.specs.declared.file_names.FileName.TheVariants.{Log}
+use Rattle.lsm_names.specs.declared.file_names.FileName.TheVariants.{Log, Table}
 use Rattle.lsm_names.proofs.FolderLemmas.{folder_has_bytes}
 use Rattle.lsm_rows.specs.Replay.{replayed, sequence_after}
 use Rattle.lsm_disk.specs.Names.{File_node, NameOp, Names, Put, all_named}
 use Rattle.lsm_disk.specs.State as disk
-use Rattle.lsm_disk.specs.State.{FileState, Seen, Story, Created, Names_synced, state_of, after, names_now, new_file}
+use Rattle.lsm_disk.specs.State.{FileState, Seen, Story, Created, Names_synced, state_of, after, names_now, new_file, file_at, file_by}
 use Rattle.lsm_disk.specs.Images.{Tree, IsImage, AreCut, tree_now}
 use Rattle.lsm_disk.specs.Kept.{HasNew, Making}
 use Rattle.lsm_disk.specs.Goes.{Went}
@@ -26,19 +26,21 @@ use Rattle.lsm_model.specs.declared.states.State.{State}
 use Rattle.lsm_model.specs.declared.states.Pin.{Pin}
 use Rattle.lsm_model.specs.States.{written}
 use Rattle.lsm_refine.specs.Kept.{Shown}
-use Rattle.lsm_refine.specs.Sane.{HasTables}
+use Rattle.lsm_refine.specs.Sane.{HasTables, TablesAreSynced}
 use Rattle.lsm_refine.specs.Pins.{IsPinned, PinFiles}
 use Rattle.lsm_refine.specs.Folders.{StandsFrom, ChangesInside, FoldersRead}
 use Rattle.lsm_refine.specs.Good.{IsRunning, Good}
 use Rattle.lsm_refine.specs.Moments.{ReadsAsCrashed}
 use Rattle.lsm_refine.specs.Beside.{ChangesAt, WritesAt, Beside, HasLast}
-use Rattle.lsm_refine.specs.Grown.{IsLeftHalted, IsDrawn, frozen_shown, frozen_state, halted_shown, halted_state}
+use Rattle.lsm_refine.specs.Grown.{IsLeftHalted, IsDrawn, frozen_kept, frozen_shown, frozen_state, halted_shown, halted_state}
 use Rattle.lsm_refine.proofs.FrozenLemmas.{new, created, later, created_at, created_inside, pinned_later, folders_later, frozen_runs, later_at}
 use Rattle.lsm_refine.proofs.GoodLemmas.{running_image, running_now}
 use Rattle.lsm_refine.proofs.HaltLemmas.{stands_less, left_same, halts_good}
 use Rattle.lsm_refine.proofs.MomentLemmas.{crash_reads}
 use Rattle.lsm_refine.proofs.OutsideLemmas.{files_same, new_item, folders_stay}
-use Rattle.lsm_refine.proofs.OtherFileLemmas.{tables_at, clear_at}
+use Rattle.lsm_refine.proofs.OtherFileLemmas.{tables_at, files_at, clear_at}
+use Rattle.lsm_refine.proofs.PartsLemmas.{readable}
+use Rattle.lsm_refine.proofs.TableSyncs.{readable_synced}
 use Rattle.lsm_refine.proofs.SyncedLemmas.{all_sure, image_stands, synced_halts}
 use Rattle.lsm_refine.proofs.WritingLemmas.{durable_few, beside, folders_beside}
 
@@ -167,6 +169,15 @@ module _ (v : Shown) (s : State) (good : Good v s) (run : IsRunning (state_of go
   fewer : (t : Tree) → StandsFrom s (length s.accepted) t → StandsFrom s s.durable t
   fewer t is = stands_less s (length s.accepted) s.durable t (durable_few v s good run) is
 
+  -- the folder's manifest is the same, and its tables
+  made_synced : TablesAreSynced made v.dir
+  made_synced = readable_synced made v.dir (frozen_kept v.kept) made_runs.parts
+      (readable made v.dir (frozen_kept v.kept) made_runs.parts made_runs.sane)
+
+  same_file : (o : Option ℕ) → file_by o with_file ≡ file_by o made
+  same_file None = refl
+  same_file (Some id) = refl
+
   -- ---- images
 
   pub before_reads : (t : Tree) → IsImage x t → ReadsAsCrashed s t
@@ -198,7 +209,10 @@ module _ (v : Shown) (s : State) (good : Good v s) (run : IsRunning (state_of go
         (λ pin are. All-weaker (IsPinned made v.dir) (IsPinned with_file v.dir)
         (λ file has. record { fits = has.fits; more = has.more; there = has.there }) pin.files are) s.pins
         (pinned_later v s good run x writes wal lawful fits drawn))
-        folders_created (clear_at v.dir (Log v.kept.next) all.sane.current.named fits x with_file file_at_new all.sane.files all.clear)))
+        folders_created (clear_at v.dir (Log v.kept.next) all.sane.current.named fits x with_file file_at_new all.sane.files all.clear)
+        (files_at v.dir (Log v.kept.next) all.sane.current.named fits x with_file file_at_new all.sane.files)
+        (λ edits number placed said found. ap (λ (f : FileState). f.unsynced)
+        (same_file (file_at with_file (path_in v.dir (Table number)))) ∙ made_synced edits number placed said found)))
       where
         all : Beside (state_of good.story) v.dir v.kept run.parts s (Log run.parts.last.number) x
         all = beside v s good run x writes
@@ -218,7 +232,8 @@ module _ (v : Shown) (s : State) (good : Good v s) (run : IsRunning (state_of go
         (left_same made v run.parts.rows s later_tables now_end (λ t i. fewer t (at_end t i))
         (pinned_later v s good run x writes wal lawful fits drawn)
         (folders_later v s good run x writes wal lawful fits drawn)
-        (clear_at v.dir (Log v.kept.next) all.sane.current.named fits x made file_at_new all.sane.files all.clear)))
+        (clear_at v.dir (Log v.kept.next) all.sane.current.named fits x made file_at_new all.sane.files all.clear)
+        (files_at v.dir (Log v.kept.next) all.sane.current.named fits x made file_at_new all.sane.files) made_synced))
       where
         all : Beside (state_of good.story) v.dir v.kept run.parts s (Log run.parts.last.number) x
         all = beside v s good run x writes

@@ -38,7 +38,7 @@ use Rattle.lsm_refine.specs.Good.{Good}
 use Rattle.lsm_refine.specs.Openings.{StandsAs, Holds, As_store, As_fresh, IsFound, ReopensTo, Same, IsKeptImage, HasOpened}
 use Rattle.lsm_refine.specs.Witness.{its_table, older_log, last_log, its_placed, its_manifest, its_files, its_disk, its_store, its_state, next_table, next_placed, next_parts, next_manifest, added_record, next_files, next_changes, next_kept, next_store}
 use Rattle.lsm_refine.proofs.SettledLemmas.{cut_whole}
-use Rattle.lsm_refine.proofs.FolderDisks.{AreApart, folder_named, part_named, outside_none, outside_file, clear}
+use Rattle.lsm_refine.proofs.FolderDisks.{AreApart, folder_named, part_named, no_folder, outside_none, outside_file, clear}
 use Rattle.lsm_refine.proofs.FolderStores.{Each, each_all, log_gone}
 use Rattle.lsm_refine.proofs.IdleLemmas.{stands_once, not_fresh}
 use Rattle.lsm_refine.proofs.KeptLemmas.{kept_loses_nothing}
@@ -175,6 +175,7 @@ module _ (dir : List ℕ) (fits : is_folder_name dir ≡ true) where
       one = before;
       of = reads_image d;
       own = Same all_three 3 stood stands;
+      files = λ none name file. no_folder dir fits parts apart name 0;
       other = before;
       also = reads_image d;
       outside = alike;

@@ -22,7 +22,7 @@ use Rattle.lsm_refine.specs.Folders.{FoldersAre, FoldersRead}
 use Rattle.lsm_refine.specs.Good.{Good}
 use Rattle.lsm_refine.specs.New.{new_state}
 use Rattle.lsm_refine.specs.Settled.{IsSettled}
-use Rattle.lsm_refine.specs.Openings.{As_store, IsUnwritten, IsClearable, IsLeftOf, IsFound, found_state, OpensTo, ReopensTo, first_number, IsNewStore, LosesNothing, HasOpened}
+use Rattle.lsm_refine.specs.Openings.{As_store, IsUnwritten, HasOnlyFiles, IsClearable, IsLeftOf, IsFound, found_state, OpensTo, ReopensTo, first_number, IsNewStore, LosesNothing, HasOpened}
 use Rattle.lsm_refine.proofs.FoundLemmas.{good_leaves, left_found, mark_left, mark_sure}
 use Rattle.lsm_refine.proofs.NewLemmas.{new_good}
 
@@ -109,11 +109,12 @@ cut_off s t before dir told is settled same own loses = stays_left s before (sub
 -- on a settled disk it is found as the state of its contents and its sequence
 pub stands_found : (d : disk.State) (dir : List ℕ) (contents : Contents) (sequence : ℕ) (folders : List FolderRead) → IsSettled d
     → finmap.get (tree_now d).names dir ≡ Some Folder_node → Stands (files_in dir (tree_now d)) contents sequence
-    → FoldersAre dir folders (tree_now d)
+    → HasOnlyFiles dir (tree_now d).names → FoldersAre dir folders (tree_now d)
     → IsClearable (tree_now d).names → IsFound d (found_state dir contents sequence folders)
-stands_found d dir contents sequence folders settled folder stands are clear =
+stands_found d dir contents sequence folders settled folder stands files are clear =
     left_found d (found_state dir contents sequence folders) settled
-    (record { own = As_store (record { folder = folder; stands = stands }); others = are; clear = clear }) (omega arith)
+    (record { own = As_store (record { folder = folder; stands = stands }); files = files; others = are; clear = clear })
+    (omega arith)
 
 -- ---- a fresh folder
 

@@ -151,6 +151,8 @@ module _ (v : Shown) (s : State) (pins : List KeptPin) (of : List Pin) (greatest
       reads = reads is.reads;
       now = stands (length s.accepted) (tree_now d) is.now;
       images = λ tree i. stands s.durable tree (is.images tree i);
+      files = is.files;
+      synced = is.synced;
     }
 
     in_mode : (h : Option Halt) → (IsRunning d v s → AreHeldQuiet d v.dir pins × JobsBuild d v.dir pins t) → IsInMode h d v s

@@ -27,9 +27,10 @@ use Rattle.lsm_model.specs.declared.states.Pin.{Pin}
 use Rattle.lsm_model.specs.declared.states.PinnedFile.{PinnedFile}
 use Rattle.lsm_model.specs.Halting.{built_in}
 use Rattle.lsm_model.specs.Pins.{held}
+use Rattle.lsm_names.proofs.FolderLemmas.{folder_has_bytes}
 use Rattle.lsm_refine.specs.Kept.{Job, KeptPin, Unfinished, Kept, Shown}
 use Rattle.lsm_refine.specs.Parts.{LogPart, Parts, AreRowsOf, first_logged, first_in_last}
-use Rattle.lsm_refine.specs.Sane.{IsAlone, HasTables, MayStand, IsOlder, AreKnown, AreFiles, RestoreBuilds, Sane, appended_to, in_hand, names_held}
+use Rattle.lsm_refine.specs.Sane.{IsAlone, HasTables, MayStand, IsOlder, AreKnown, AreFiles, TablesAreSynced, RestoreBuilds, Sane, appended_to, in_hand, names_held}
 use Rattle.lsm_refine.specs.Pins.{PinFiles, IsKeptPin, ArePins, HasCopy, HasFront, IsAbsent, HasJob, BuildsJob, JobsBuild, begun_files, absent_files}
 use Rattle.lsm_refine.specs.Folders.{StandsFrom}
 use Rattle.lsm_refine.specs.Good.{IsRunning, Good}
@@ -51,6 +52,7 @@ use Rattle.lsm_refine.proofs.OtherFileLemmas.{name_apart, outside, not_built}
 use Rattle.lsm_refine.proofs.PinnedLemmas.{pins_fit, pins_both}
 use Rattle.lsm_refine.proofs.ReplacedFrames.{file_off, went_replacing}
 use Rattle.lsm_refine.proofs.SwitchedLemmas.{dir_elsewhere, name_elsewhere, wal_among, synced_among, files_among, clear_among, restored_among}
+use Rattle.lsm_refine.proofs.TableSyncs.{names_synced}
 use Rattle.lsm_refine.proofs.TornReads.{torn_stands, torn_now}
 
 -- ---- what holds of each held name
@@ -99,11 +101,11 @@ module _ (dir : List ℕ) (named : is_folder_name dir ≡ true) (number : ℕ) (
   pub fits : All IsFileName (switched_names number number)
   fits = each_name IsFileName manifest_fits temp_fits tt
 
-  log_elsewhere : (n : ℕ) → IsFileName (Log n) → IsElsewhere dir (switched_names number number) (path_in dir (Log n))
+  pub log_elsewhere : (n : ℕ) → IsFileName (Log n) → IsElsewhere dir (switched_names number number) (path_in dir (Log n))
   log_elsewhere n is = name_elsewhere dir named names fits d x at (Log n) is
       (each_name (λ (m : FileName). Log n ≢ m) (λ same. cc) (λ same. cc) (λ same. cc))
 
-  table_elsewhere : (n : ℕ) → IsFileName (Table n) → IsElsewhere dir (switched_names number number) (path_in dir (Table n))
+  pub table_elsewhere : (n : ℕ) → IsFileName (Table n) → IsElsewhere dir (switched_names number number) (path_in dir (Table n))
   table_elsewhere n is = name_elsewhere dir named names fits d x at (Table n) is
       (each_name (λ (m : FileName). Table n ≢ m) (λ same. cc) (λ same. cc) (λ same. cc))
 
@@ -421,6 +423,25 @@ module _ (v : Shown) (s : State) (good : Good v s) (run : IsRunning (state_of go
             torn_now x v.dir kept parts s good.kept.own ready.beside.lawful ready.tied run.certain reads wal t i named,
           )
 
+      -- either way the tables are synced that the manifest names
+      replace_synced : t ≡ tree_now x → NamesWhole v.dir v.kept.manifest run.parts.edits t ⊎ NamesWhole v.dir number parts.edits t
+          → TablesAreSynced x v.dir
+      replace_synced same either = ⊎_elim
+          (λ old. names_synced x v.dir v.kept run.parts.edits run.parts.rows some
+          (subst (NamesManifest v.dir run.parts.edits) same
+          (whole_names v.kept.manifest run.sane.current.numbered run.parts.edits run.sane.edits.are old))
+          run.sane.edits.version
+          (replaced_tables v.dir run.sane.current.named number next.numbered next.temporary d x is.among v.kept run.parts
+          (manifest_beside v s good run d (writes_none v.dir (Manifest v.kept.manifest) d)).sane))
+          (λ new. names_synced x v.dir kept parts.edits parts.rows some
+          (subst (NamesManifest v.dir parts.edits) same (whole_names number next.numbered parts.edits ready.are new))
+          ready.version
+          (replaced_tables v.dir run.sane.current.named number next.numbered next.temporary d x is.among kept parts ready.beside))
+          either
+        where
+          some : 1 ≤ length v.dir
+          some = folder_has_bytes v.dir run.sane.current.named
+
       replace_stands : NamesWhole v.dir v.kept.manifest run.parts.edits t ⊎ NamesWhole v.dir number parts.edits t
           → StandsFrom s s.durable t × (t ≡ tree_now x → StandsFrom s (length s.accepted) t)
       replace_stands either = ⊎_elim with_old with_new either
@@ -445,7 +466,10 @@ module _ (v : Shown) (s : State) (good : Good v s) (run : IsRunning (state_of go
         (λ t i. (replace_stands t i (either t i)).0) pins_stay (folders_with v s good x is.inside)
         (clear_among v.dir run.sane.current.named three
         (fits v.dir run.sane.current.named number next.numbered next.temporary d x is.among)
-        d x is.among run.sane.files good.clear)))
+        d x is.among run.sane.files good.clear)
+        (files_among v.dir run.sane.current.named three
+        (fits v.dir run.sane.current.named number next.numbered next.temporary d x is.among) d x is.among run.sane.files)
+        (replace_synced (tree_now x) (reads_image x) refl (either (tree_now x) (reads_image x)))))
 
   -- each image on the way reads as a crash leaves the state
   pub replace_went : (told : Option Story) (P : disk.State → Tree → Type 0) (J : disk.State → Type 0)

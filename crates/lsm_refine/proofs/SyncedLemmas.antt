@@ -25,6 +25,8 @@ use Rattle.lsm_refine.specs.Grown.{sure_batches, synced_shown, synced_state, hal
 use Rattle.lsm_refine.proofs.BesideLemmas.{writes_none, file_writes}
 use Rattle.lsm_refine.proofs.GoodLemmas.{running_image, running_now}
 use Rattle.lsm_refine.proofs.HaltLemmas.{left_same, halts_good}
+use Rattle.lsm_refine.proofs.PartsLemmas.{readable_beside}
+use Rattle.lsm_refine.proofs.TableSyncs.{readable_synced}
 use Rattle.lsm_refine.proofs.MomentLemmas.{crash_reads}
 use Rattle.lsm_refine.proofs.PinnedLemmas.{pins_alike}
 use Rattle.lsm_refine.proofs.TiedLemmas.{logged_many}
@@ -187,7 +189,9 @@ module _ (v : Shown) (s : State) (good : Good v s) (run : IsRunning (state_of go
       let all = beside v s good run x writes in
       halts_good v s good run seen at s.doubtful story told
       (left_same x v run.parts.rows s all.sane.tables (now_stands x writes many wal)
-      (λ tree i. image_stands x writes many wal tree i s.durable enough) all.pinned (folders_beside v s good run x writes) all.clear)
+      (λ tree i. image_stands x writes many wal tree i s.durable enough) all.pinned (folders_beside v s good run x writes) all.clear
+      all.sane.files (readable_synced x v.dir v.kept run.parts
+      (readable_beside x v.dir v.kept run.parts (Log run.parts.last.number) all.sane (λ same. cc))))
 
   -- ---- the disk call
 

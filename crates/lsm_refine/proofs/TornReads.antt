@@ -7,7 +7,9 @@ use Rattle.std.proofs.lemmas.List.Elements.{All-weaker}
 use Rattle.std.specs.FinMap as finmap
 use Rattle.lsm_names.specs.FileNames.{IsFileName}
 use Rattle.lsm_names.specs.declared.file_names.FileName.TheVariants.{Log, Manifest, Current}
+use Rattle.lsm_names.proofs.FolderLemmas.{folder_has_bytes}
 use Rattle.lsm_rows.specs.declared.operations.Op.{Op}
+use Rattle.lsm_rows.specs.declared.rows.Row.{Row}
 use Rattle.lsm_rows.specs.Replay.{replayed, sequence_after}
 use Rattle.lsm_disk.specs.Names.{Folder_node, Names, id_of}
 use Rattle.lsm_disk.specs.State as disk
@@ -30,7 +32,7 @@ use Rattle.lsm_model.specs.declared.states.State.{State}
 use Rattle.lsm_model.specs.States.{written, none_or_one}
 use Rattle.lsm_refine.specs.Kept.{Kept, Shown}
 use Rattle.lsm_refine.specs.Parts.{LogPart, Parts, batches_in, first_logged}
-use Rattle.lsm_refine.specs.Sane.{MayStand, IsOlder}
+use Rattle.lsm_refine.specs.Sane.{HasTables, MayStand, IsOlder, TablesAreSynced}
 use Rattle.lsm_refine.specs.Tied.{Tied}
 use Rattle.lsm_refine.specs.Fronts.{logs_with, last_text, batches_with}
 use Rattle.lsm_refine.specs.Folders.{StandsFor, StandsFrom}
@@ -48,6 +50,7 @@ use Rattle.lsm_refine.proofs.InstalledLemmas.{folders_with, manifest_lone, manif
 use Rattle.lsm_refine.proofs.LastLogLemmas.{last_is, older_are}
 use Rattle.lsm_refine.proofs.MomentLemmas.{crash_reads}
 use Rattle.lsm_refine.proofs.OtherFileLemmas.{dir_apart, tables_at, wal_at, synced_at}
+use Rattle.lsm_refine.proofs.TableSyncs.{names_synced}
 use Rattle.lsm_refine.proofs.TiedLemmas.{logged_many, tied_reads}
 use Rattle.lsm_refine.proofs.TornLemmas.{torn_first, torn_all}
 
@@ -211,6 +214,28 @@ module _ (v : Shown) (s : State) (good : Good v s) (run : IsRunning (state_of go
           }))
           either.records
 
+      -- either way the tables are synced that the manifest names
+      either_synced : t ≡ tree_now x → TablesAreSynced x v.dir
+      either_synced same = ⊎_elim
+          (λ old. synced_by v.kept run.parts.edits run.parts.rows
+          (record { are = run.sane.edits.are; records = old; ends = either.ends }) run.sane.edits.version
+          (manifest_beside v s good run x writes).sane.tables)
+          (λ new. synced_by kept parts.edits parts.rows (record {
+            are = ready.are;
+            records = new ∙ ap (λ (edits : List Edit). map edit_text edits) (sym more);
+            ends = either.ends;
+          }) ready.version
+          (writing_reads (state_of good.story) v.dir kept parts ready.beside x
+          (subst (λ (n : ℕ). WritesAt v.dir (Manifest n) (state_of good.story) x) (sym ready.manifest) writes) ready.version
+          ready.log).tables)
+          either.records
+        where
+          synced_by : (k : Kept) (edits : List Edit) (rows : ℕ → List Row) → IsManifest either.bytes edits
+              → k.version ≡ tables_after edits → HasTables x v.dir k rows → TablesAreSynced x v.dir
+          synced_by k edits rows says version tables =
+              names_synced x v.dir k edits rows (folder_has_bytes v.dir run.sane.current.named)
+              (subst (NamesManifest v.dir edits) same (names_either says)) version tables
+
       -- with the edit and without, the folder stands for what it did
       pub edit_reads : ReadsAsCrashed s t
       edit_reads = crash_reads x s t i (folders_with v s good x writes.inside) either_stands.0
@@ -226,7 +251,8 @@ module _ (v : Shown) (s : State) (good : Good v s) (run : IsRunning (state_of go
         (subst (λ (y : disk.State). IsLeftHalted y v run.parts.rows s s.doubtful) (sym same)
         (left_same x v run.parts.rows s beside.sane.tables
         ((either_stands (tree_now x) (reads_image x) (either (tree_now x) (reads_image x))).1 refl)
-        (λ t i. (either_stands t i (either t i)).0) beside.pinned (folders_with v s good x writes.inside) beside.clear))
+        (λ t i. (either_stands t i (either t i)).0) beside.pinned (folders_with v s good x writes.inside) beside.clear
+        beside.sane.files (either_synced (tree_now x) (reads_image x) (either (tree_now x) (reads_image x)) refl)))
 
   -- each image on the way reads so
   pub edit_went : (told : Option Story) (P : disk.State → Tree → Type 0) (J : disk.State → Type 0)

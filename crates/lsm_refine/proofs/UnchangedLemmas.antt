@@ -12,7 +12,9 @@ use Rattle.lsm_refine.specs.Folders.{StandsFor, StandsFrom, FoldersRead}
 use Rattle.lsm_refine.specs.Good.{ShowsAccepted, IsRunning, IsHalted, IsInMode, KeptIs, Good, IsUnchanged, with_counts, stopped}
 use Rattle.lsm_refine.proofs.GoodLemmas.{running_now, running_image}
 use Rattle.lsm_refine.proofs.ShownLemmas.{running_shows}
+use Rattle.lsm_refine.proofs.PartsLemmas.{readable}
 use Rattle.lsm_refine.proofs.PinnedLemmas.{pins_alike}
+use Rattle.lsm_refine.proofs.TableSyncs.{readable_synced}
 use Rattle.lsm_refine.proofs.ViewLemmas.{viewed_good}
 
 -- ---- the state's counts and its halting call
@@ -79,6 +81,8 @@ module _ (seen : Seen) (halt : Option Halt) (s : State) where
       reads = reads is.reads;
       now = stands_from _ (tree_now d) is.now;
       images = λ tree i. stands_from s.durable tree (is.images tree i);
+      files = is.files;
+      synced = is.synced;
     }
 
     -- a running store that is halted with nothing done
@@ -87,6 +91,8 @@ module _ (seen : Seen) (halt : Option Halt) (s : State) where
       reads = reads (running_shows d v s is);
       now = stands_from _ (tree_now d) (running_now d v s own is);
       images = λ tree i. stands_from s.durable tree (running_image d v s own is tree i);
+      files = is.sane.files;
+      synced = readable_synced d v.dir v.kept is.parts (readable d v.dir v.kept is.parts is.sane);
     }
 
     pinned : Pinned d v.dir v.kept.pins s → Pinned d v.dir v.kept.pins t

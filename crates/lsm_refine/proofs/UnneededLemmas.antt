@@ -38,7 +38,8 @@ use Rattle.lsm_refine.proofs.NewFileLemmas.{went_making}
 use Rattle.lsm_refine.proofs.MomentLemmas.{crash_reads}
 use Rattle.lsm_refine.proofs.OutsideLemmas.{folders_stay}
 use Rattle.lsm_refine.proofs.PartsLemmas.{readable}
-use Rattle.lsm_refine.proofs.OtherFileLemmas.{name_apart, current_at, edits_at, tables_at, wal_at, synced_at, clear_at}
+use Rattle.lsm_refine.proofs.TableSyncs.{readable_synced}
+use Rattle.lsm_refine.proofs.OtherFileLemmas.{name_apart, current_at, edits_at, tables_at, wal_at, synced_at, files_at, clear_at}
 
 module _ (v : Shown) (s : State) (good : Good v s) (run : IsRunning (state_of good.story) v s) (name : FileName)
     (fits : IsFileName name) (unneeded : ¬ IsNeeded v.kept name) where
@@ -139,7 +140,9 @@ module _ (v : Shown) (s : State) (good : Good v s) (run : IsRunning (state_of go
       let x : disk.State = state_of story in
       halts_good v s good run seen by s.doubtful story told
       (left_same x v run.parts.rows s (unneeded_readable x at).tables (now_stands x at) (image_stands x at) pins
-      (folders_still x at inside) (clear_at v.dir name named fits d x at run.sane.files good.clear))
+      (folders_still x at inside) (clear_at v.dir name named fits d x at run.sane.files good.clear)
+      (files_at v.dir name named fits d x at run.sane.files)
+      (readable_synced x v.dir v.kept run.parts (unneeded_readable x at)))
 
   -- ---- runs
 

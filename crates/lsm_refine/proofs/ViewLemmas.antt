@@ -128,7 +128,13 @@ module _ (d : disk.State) (v : Shown) (views : finmap.FinMap nat_cmp Viewed) (te
   }
 
   halted : (s : State) → IsHalted d v s → IsHalted d w s
-  halted s is = record { reads = reads s is.reads; now = is.now; images = is.images }
+  halted s is = record {
+    reads = reads s is.reads;
+    now = is.now;
+    images = is.images;
+    files = is.files;
+    synced = is.synced;
+  }
 
   pub in_mode : (h : Option Halt) (s : State) → IsInMode h d v s → IsInMode h d w s
   in_mode None s is = running s is

@@ -25,7 +25,7 @@ use Rattle.lsm_model.specs.Counts.{IsCounted}
 use Rattle.lsm_model.specs.Steps.{Made, Run}
 use Rattle.lsm_refine.specs.Kept.{Kept, Shown}
 use Rattle.lsm_refine.specs.Parts.{Parts, AreRowsOf}
-use Rattle.lsm_refine.specs.Sane.{Sane, HasTables}
+use Rattle.lsm_refine.specs.Sane.{Sane, HasTables, AreFiles, TablesAreSynced}
 use Rattle.lsm_refine.specs.Tied.{Tied, WorksAs}
 use Rattle.lsm_refine.specs.Pins.{AreClearable, Pinned, JobsBuild}
 use Rattle.lsm_refine.specs.Folders.{StandsFrom, FoldersRead}
@@ -72,11 +72,14 @@ pub record ShowsAccepted (d : disk.State) (v : Shown) (s : State) : Type 0 where
   pub active : AreRowsOf (first_active s) (active_batches s) v.kept.active
 
 -- Once a disk call has halted it, readings still show the accepted batches; its folder stands for these, or for these and the
--- doubtful one; and in each image for a front of them that has the durable ones.
+-- doubtful one; and in each image for a front of them that has the durable ones. No folder stands under a file's name, and
+-- the tables that the folder's manifest names are synced.
 pub record IsHalted (d : disk.State) (v : Shown) (s : State) : Type 0 where
   pub reads : ShowsAccepted d v s
   pub now : StandsFrom s (length s.accepted) (tree_now d)
   pub images : (t : Tree) → IsImage d t → StandsFrom s s.durable t
+  pub files : AreFiles d v.dir
+  pub synced : TablesAreSynced d v.dir
 
 abbrev pub IsInMode : Option Halt → disk.State → Shown → State → Type 0
 IsInMode None d v s = IsRunning d v s

@@ -16,7 +16,7 @@ use Rattle.lsm_model.specs.Writes.{with_batch}
 use Rattle.lsm_model.specs.Upkeep.{with_frozen}
 use Rattle.lsm_refine.specs.Kept.{Kept, Shown}
 use Rattle.lsm_refine.specs.Parts.{Parts, batches_in, logs_of, first_in_last}
-use Rattle.lsm_refine.specs.Sane.{HasTables}
+use Rattle.lsm_refine.specs.Sane.{HasTables, AreFiles, TablesAreSynced}
 use Rattle.lsm_refine.specs.Pins.{AreClearable, PinFiles}
 use Rattle.lsm_refine.specs.Folders.{StandsFrom, FoldersRead}
 use Rattle.lsm_refine.specs.Good.{with_counts, stopped}
@@ -70,11 +70,14 @@ halted_state seen at doubtful s = stopped at (with_counts seen (record s { doubt
 
 -- What a halting call has left: the tables and the pinned files are there, and the other folders read as they did. The
 -- store's own one stands for the accepted batches, and in each image for a front of them that has the durable ones; there
--- the doubtful one may come behind them.
+-- the doubtful one may come behind them. No folder stands under a file's name in it, and the tables that its manifest names
+-- are synced.
 pub record IsLeftHalted (x : disk.State) (v : Shown) (rows : ℕ → List Row) (s : State) (doubtful : Option (List Op)) : Type 0 where
   pub tables : HasTables x v.dir v.kept rows
   pub now : StandsFrom (record s { doubtful = doubtful }) (length s.accepted) (tree_now x)
   pub images : (t : Tree) → IsImage x t → StandsFrom (record s { doubtful = doubtful }) s.durable t
+  pub files : AreFiles x v.dir
+  pub synced : TablesAreSynced x v.dir
   pub pinned : All (λ (pin : Pin). PinFiles x v.dir pin.files) s.pins
   pub folders : FoldersRead x s
   pub clear : AreClearable x

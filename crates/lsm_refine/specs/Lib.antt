@@ -7,6 +7,7 @@ pub mod Disks
 pub mod Edited
 pub mod Flushed
 pub mod Folders
+pub mod FoundFolder
 pub mod Fronts
 pub mod Good
 pub mod Grown
@@ -20,6 +21,7 @@ pub mod MovesApart
 pub mod Naming
 pub mod New
 pub mod Obsolete
+pub mod OpeningImages
 pub mod Openings
 pub mod Parts
 pub mod Pins
@@ -28,6 +30,7 @@ pub mod Sane
 pub mod Settled
 pub mod TableWork
 pub mod Tied
+pub mod Vacant
 pub mod WholeEdits
 pub mod Within
 pub mod Witness

@@ -2,12 +2,14 @@
 use Rattle.std.specs.Prelude.{◌≡◌, ◌≢◌, ℕ, ◌≤◌, true, List, [], ◌∷◌, ◌++◌, map, length, All, Option, Some}
 use Rattle.std.specs.FinMap as finmap
 use Rattle.lsm_names.specs.Folders.{is_folder_name}
+use Rattle.lsm_names.specs.FileNames.{IsFileName}
 use Rattle.lsm_names.specs.declared.file_names.FileName.{FileName}
 use Rattle.lsm_rows.specs.Replay.{Contents}
 use Rattle.lsm_disk.specs.Names.{Names, Folder_node, File_node}
 use Rattle.lsm_disk.specs.State as disk
 use Rattle.lsm_disk.specs.State.{Story, state_of}
 use Rattle.lsm_disk.specs.Images.{Tree, IsImage, tree_now}
+use Rattle.lsm_disk.specs.Dest.{path_in}
 use Rattle.lsm_disk.specs.Goes.{Went}
 use Rattle.lsm_folder.specs.Files.{Item, files_in, place_of}
 use Rattle.lsm_folder.specs.Needed.{IsFresh, Stands}
@@ -19,6 +21,7 @@ use Rattle.lsm_model.specs.Crashes.{Crashed, Opened}
 use Rattle.lsm_model.specs.Plain.{empty_state}
 use Rattle.lsm_refine.specs.Kept.{Shown}
 use Rattle.lsm_refine.specs.Pins.{AreClearable}
+use Rattle.lsm_refine.specs.Sane.{TablesAreSynced}
 use Rattle.lsm_refine.specs.Folders.{StandsFor, FoldersAre, FoldersRead, AreAlikeOutside}
 use Rattle.lsm_refine.specs.Good.{Good}
 use Rattle.lsm_refine.specs.New.{HasNewStore, next_number, new_store}
@@ -37,12 +40,17 @@ pub data Holds (s : State) (t : Tree) (count : ℕ) : Type 0 where
   As_store : StandsFor s t count → Holds s t count
   As_fresh : IsFresh (place_of s.own t) → IsUnwritten s → Holds s t count
 
--- it holds a front of them, which has so many at least
+-- No folder stands under a name of a store's file. A folder that has such a subfolder isn't found as a store's.
+abbrev pub HasOnlyFiles : List ℕ → Names → Type 0
+HasOnlyFiles dir names = (name : FileName) → IsFileName name → finmap.get names (path_in dir name) ≢ Some Folder_node
+
+-- the folder holds a front of the written batches, which has so many at least, and no folder under a file's name
 pub record HoldsFrom (s : State) (least : ℕ) (t : Tree) : Type 0 where
   pub count : ℕ
   pub enough : least ≤ count
   pub within : count ≤ length (written s)
   pub holds : Holds s t count
+  pub files : HasOnlyFiles s.own t.names
 
 -- under the name in which a checkpoint is built there is nothing, or a folder that has no other folder in it
 pub record IsClearable (names : Names) : Type 0 where
@@ -52,6 +60,7 @@ pub record IsClearable (names : Names) : Type 0 where
 -- the tree is as this state says: its folder holds all accepted batches, the others are as listed, and a checkpoint may be built
 pub record HoldsAs (t : Tree) (s : State) : Type 0 where
   pub own : Holds s t (length s.accepted)
+  pub files : HasOnlyFiles s.own t.names
   pub others : FoldersAre s.own s.folders t
   pub clear : IsClearable t.names
 
@@ -64,10 +73,12 @@ pub record IsLeftOf (s : State) (t : Tree) : Type 0 where
 -- ---- what an opening finds
 
 -- A disk on which no store is open is as this state says: its folder holds now the accepted batches, or also the doubtful one,
--- and in each image a front of these with the durable ones; the other folders read as listed; and a checkpoint may be built.
+-- and in each image a front of these with the durable ones; the tables that its manifest names are synced; the other folders
+-- read as listed; and a checkpoint may be built.
 pub record IsFound (d : disk.State) (s : State) : Type 0 where
   pub now : HoldsFrom s (length s.accepted) (tree_now d)
   pub images : (t : Tree) → IsImage d t → HoldsFrom s s.durable t
+  pub synced : TablesAreSynced d s.own
   pub folders : FoldersRead d s
   pub clear : AreClearable d
 
@@ -121,11 +132,13 @@ pub data IsAsBefore (dir : List ℕ) (old new : Tree) : Type 0 where
   Still_fresh : IsFresh (place_of dir old) → IsFresh (place_of dir new) → IsAsBefore dir old new
   Made : IsFresh (place_of dir old) → StandsAs dir finmap.empty 0 new → IsAsBefore dir old new
 
--- The folder is as it was in an image from before, the others are as in one, and a checkpoint may be built.
+-- The folder is as it was in an image from before, and no folder has come under a name of a store's file; the others are as in
+-- one; and a checkpoint may be built.
 pub record IsKeptImage (dir : List ℕ) (d : disk.State) (t : Tree) : Type 0 where
   pub one : Tree
   pub of : IsImage d one
   pub own : IsAsBefore dir one t
+  pub files : HasOnlyFiles dir one.names → HasOnlyFiles dir t.names
   pub other : Tree
   pub also : IsImage d other
   pub outside : AreAlikeOutside dir other t

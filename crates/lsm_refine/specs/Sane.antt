@@ -1,5 +1,5 @@
 -- When what a running store keeps of itself is so on its disk, now and after each crash. No abstract state is in it.
-use Rattle.std.specs.Prelude.{◌≡◌, ◌≢◌, ◌⊎◌, ℕ, ◌≤◌, true, is_some, List, [], ◌∷◌, ◌++◌, map, take, length, All, Contains, Option, Some, None}
+use Rattle.std.specs.Prelude.{◌≡◌, ◌≢◌, ◌⊎◌, ℕ, ◌≤◌, true, is_some, List, [], ◌∷◌, ◌++◌, map, take, length, All, Contains, Option, Some, None, Ok}
 use Rattle.std.specs.List.{flat_map}
 use Rattle.std.specs.List.Sorted.{IsStrictlySortedBy}
 use Rattle.std.specs.Ordering.{nat_cmp}
@@ -11,7 +11,7 @@ use Rattle.lsm_names.specs.declared.file_names.FileName.TheVariants.{Log, Table,
 use Rattle.lsm_rows.specs.declared.rows.Row.{Row}
 use Rattle.lsm_rows.specs.Replay.{sequence_after}
 use Rattle.lsm_disk.specs.Names.{Folder_node, File_node, all_named}
-use Rattle.lsm_disk.specs.State.{FileState, State, Change, Created, Named, file_at, names_now}
+use Rattle.lsm_disk.specs.State.{FileState, State, Change, Created, Named, file_at, file_now, names_now}
 use Rattle.lsm_disk.specs.Images.{bytes_at, tree_now}
 use Rattle.lsm_disk.specs.Kept.{IsKeptName, IsKeptFile, OpSpares, SparesName, Spares}
 use Rattle.lsm_disk.specs.Building.{Part, IsBuilding, IsWriting, sealed}
@@ -19,11 +19,13 @@ use Rattle.lsm_disk.specs.Dest.{Begun, path_in}
 use Rattle.lsm_disk.specs.Viewed.{Viewed}
 use Rattle.lsm_wal.specs.Batches.{in_sequence}
 use Rattle.lsm_wal.specs.Standing.{IsWal}
+use Rattle.lsm_folder.specs.Files.{files_in}
 use Rattle.lsm_folder.specs.Names.{current_text}
 use Rattle.lsm_table.specs.WholeTables.{IsTable}
 use Rattle.lsm_version.specs.declared.tables.Placed.{Placed}
 use Rattle.lsm_version.specs.declared.edits.Edit.{Edit}
 use Rattle.lsm_folder.specs.Manifests.{tables_after, log_after, last_after, manifest_text}
+use Rattle.lsm_folder.specs.Needed.{edits_at}
 use Rattle.lsm_folder.specs.Parts.{AreEdits, AreLawful}
 use Rattle.lsm_refine.specs.Kept.{KeptPin, Unfinished, Kept}
 use Rattle.lsm_refine.specs.Parts.{LogPart, Parts, AreRowsOf, numbers_of, batches_in, logs_of, first_logged, first_in_last}
@@ -71,6 +73,11 @@ pub record HasTable (d : State) (dir : List ℕ) (kept : Kept) (number : ℕ) (p
 -- so is each live table
 pub record HasTables (d : State) (dir : List ℕ) (kept : Kept) (rows : ℕ → List Row) : Type 0 where
   pub each : (number : ℕ) (placed : Placed) → finmap.get kept.version number ≡ Some placed → HasTable d dir kept number placed (rows number)
+
+-- All bytes of each table that the folder's manifest now names are synced, whatever the manifest is.
+abbrev pub TablesAreSynced : State → List ℕ → Type 0
+TablesAreSynced d dir = (edits : List Edit) (number : ℕ) (placed : Placed) → edits_at (files_in dir (tree_now d)) ≡ Ok edits
+    → finmap.get (tables_after edits) number ≡ Some placed → (file_now (path_in dir (Table number)) d).unsynced ≡ []
 
 -- logs from a sequence on, each behind the one before it, are there with all their batches, which are synced
 abbrev pub AreSynced : State → List ℕ → ℕ → List LogPart → Type 0

@@ -10,6 +10,9 @@ mod frame_laws;
 mod laws;
 mod life_laws;
 mod move_laws;
+mod new_laws;
+mod opening_images;
+mod opening_laws;
 mod within_laws;
 
 pub use call_laws::{
@@ -53,6 +56,16 @@ pub use life_laws::{
     lives_lead_on, what_a_crash_left_opens_again,
 };
 pub use move_laws::a_moved_folder_leaves_the_stores_own;
+pub use new_laws::{a_fresh_folder_is_vacant, a_new_folder_is_vacant, a_new_store_is_made};
+pub use opening_images::{
+    a_new_file_beside_keeps_the_folder, a_new_folder_is_fresh, a_new_manifest_keeps_the_folder,
+    a_new_manifest_would_say_the_same, a_read_folder_would_stand, an_empty_log_keeps_the_folder,
+    an_opening_may_begin, an_opening_may_go_on, what_was_found_is_whole,
+};
+pub use opening_laws::{
+    a_folder_that_stands_is_opened, a_new_manifest_says_what_was_found,
+    an_opening_goes_part_by_part,
+};
 pub use within_laws::{
     a_restores_folder_is_one_part, changes_within_a_folder, folders_beside_read_as_before,
     pins_and_checkpoints_stay, the_stores_own_folder_stays,

@@ -21,7 +21,7 @@ ghost use Rattle.lsm_refine.specs.Disks.{untouched, as_seen};
 ghost use Rattle.lsm_refine.specs.New.{new_store, new_disk};
 ghost use Rattle.lsm_refine.specs.Settled.{IsSettled, left_by};
 ghost use Rattle.lsm_refine.specs.Witness.{its_disk, its_store, its_state, next_store};
-ghost use Rattle.lsm_refine.specs.Openings.{IsUnwritten, IsClearable, HoldsAs, IsLeftOf, IsFound, found_state, OpensTo, ReopensTo, IsKeptImage, IsNewStore, LosesNothing, HasOpened};
+ghost use Rattle.lsm_refine.specs.Openings.{IsUnwritten, HasOnlyFiles, IsClearable, HoldsAs, IsLeftOf, IsFound, found_state, OpensTo, ReopensTo, IsKeptImage, IsNewStore, LosesNothing, HasOpened};
 ghost use Rattle.lsm_refine.specs.Lifetimes.{LivesLead};
 
 /// From a settled disk a crash takes nothing: each image is its tree now. The disk that is opened after a crash is settled,
@@ -53,13 +53,13 @@ pub fn an_opening_that_keeps_its_folder_loses_nothing()
         → Went before told (λ c. Unit {0}) (λ d t. IsKeptImage dir (state_of before) t) (λ d. Unit {0}) → LosesNothing before dir told }
 {}
 
-/// What an opening finds on a settled disk: the state of which the tree is; and where a folder stands, a state of its contents
-/// and its sequence.
+/// What an opening finds on a settled disk: the state of which the tree is; and where a folder stands that has no other folder
+/// under a file's name, a state of its contents and its sequence.
 pub fn a_settled_disk_is_found()
     ensures left { (d : disk.State) (s : State) → IsSettled d → HoldsAs (tree_now d) s → s.durable ≤ length s.accepted → IsFound d s }
     ensures stands { (d : disk.State) (dir : List ℕ) (contents : Contents) (sequence : ℕ) (folders : List FolderRead) → IsSettled d
         → finmap.get (tree_now d).names dir ≡ Some Folder_node → Stands (files_in dir (tree_now d)) contents sequence
-        → FoldersAre dir folders (tree_now d) → IsClearable (tree_now d).names
+        → HasOnlyFiles dir (tree_now d).names → FoldersAre dir folders (tree_now d) → IsClearable (tree_now d).names
         → IsFound d (found_state dir contents sequence folders) }
 {}
 

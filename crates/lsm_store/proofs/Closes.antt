@@ -70,6 +70,7 @@ module _ (s : State) where
     enough = is.enough;
     within = is.within;
     holds = holds_closed t is.count is.holds;
+    files = is.files;
   }
 
   found_closed : s.doubtful ≡ None → (d : disk.State) → IsFound d s → IsFound d (closed s)
@@ -78,6 +79,7 @@ module _ (s : State) where
       subst (λ (o : Option (List Op)). IsFound d (record s { doubtful = o })) certain found in record {
         now = from_closed (length s.accepted) (tree_now d) is.now;
         images = λ t i. from_closed s.durable t (is.images t i);
+        synced = is.synced;
         folders = record { now = is.folders.now; sure = is.folders.sure };
         clear = is.clear;
       }

@@ -17,6 +17,8 @@ mod manifests;
 #[cfg(test)]
 mod on_disk;
 #[cfg(test)]
+mod opened;
+#[cfg(test)]
 mod sure;
 #[cfg(test)]
 mod table_texts;

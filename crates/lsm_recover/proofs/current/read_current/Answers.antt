@@ -36,4 +36,4 @@ pub returns-in-Err-clause-cause : goal.returns-in-Err-clause-cause
 returns-in-Err-clause-cause g c =
     let seen = g.D.Disk.seen in
     let cause = c.in-Err.ensures.cause in
-    call_cause c.args.dir.now (seen c.args.disk.now) (seen c.open_whole.new.disk) (NoCurrent c.args.dir.now) c.in-Err.refused c.error_by.result c.error_by.ensures cause.faults_later cause.refusals_later cause.counted (λ rose. (refl, rose))
+    call_cause c.args.dir.now (seen c.args.disk.now) (seen c.open_whole.new.disk) (NoCurrent c.args.dir.now) c.in-Err.refused c.error_by.result c.error_by.ensures c.in-Err.ensures.made cause.faults_later cause.refusals_later cause.counted (λ rose. (refl, rose))

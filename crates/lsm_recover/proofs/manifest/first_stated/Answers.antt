@@ -2,7 +2,8 @@ use Rattle.std.proofs.Common.{◌≡◌, ◌∙◌, [], false, rules, sym, ap, s
 use Rattle.std.specs.Prelude.{IfSome, ◌<◌, ◌^◌, ℕ, Option}
 use Rattle.lsm_version.specs.Versions.{version_after}
 use Rattle.lsm_folder.specs.Manifests.{may_follow}
-use Rattle.lsm_recover.specs.Stated.{AreNumbered}
+use Rattle.lsm_recover.specs.Stated.{AreNumbered, AreSaid}
+use Rattle.lsm_recover.proofs.SaidLemmas.{applied_said, none_said}
 use Rattle.lsm_recover.proofs.StatedLemmas.{not_followed, no_log, no_next, no_last, first_follows, first_version, first_numbers, edit_taken, edit_refused, stated_more}
 use Rattle.lsm_recover.proofs.SoundLemmas.{applied_numbered, none_numbered, edit_small}
 use Rattle.lsm_recover.proofs.manifest.first_stated.Goals.{in_default-via-in-Some+in-Some+in_default, in_default-via-in-Some+in_default, in_default-via-in_default}
@@ -43,5 +44,6 @@ returns-clause-sound c =
     let some = c.in-Some-Some-Some in
     record {
       numbered = applied_numbered c.empty.result c.in_ok-version.version edit c.requires.grammar c.in_ok-version.ensures.ok (subst AreNumbered (sym c.empty.ensures) none_numbered);
+      said = applied_said c.empty.result c.in_ok-version.version edit c.requires.grammar c.in_ok-version.ensures.ok (subst AreSaid (sym c.empty.ensures) none_said);
       small = subst (λ (o : Option ℕ). IfSome o (λ (n : ℕ). n < 2 ^ 56)) some.is-2 (edit_small edit c.requires.grammar);
     }

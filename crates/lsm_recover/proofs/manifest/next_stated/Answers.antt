@@ -3,6 +3,7 @@ use Rattle.std.specs.Prelude.{Some, ◌<◌, ◌^◌}
 use Rattle.lsm_version.specs.declared.edits.Edit.{Edit}
 use Rattle.lsm_recover.specs.Stated.{AreStated}
 use Rattle.lsm_recover.proofs.StatedLemmas.{next_follows, next_numbers, last_stays_small, edit_taken, edit_refused, stated_more}
+use Rattle.lsm_recover.proofs.SaidLemmas.{applied_said}
 use Rattle.lsm_recover.proofs.SoundLemmas.{applied_numbered, edit_small}
 use Rattle.lsm_recover.proofs.manifest.next_stated.Goals as goal
 
@@ -27,5 +28,6 @@ returns-clause-sound c =
     let edit = c.args.edit.now in
     record {
       numbered = applied_numbered c.args.stated.version c.in_ok-version.version edit c.requires.grammar c.in_ok-version.ensures.ok c.requires.sound.numbered;
+      said = applied_said c.args.stated.version c.in_ok-version.version edit c.requires.grammar c.in_ok-version.ensures.ok c.requires.sound.said;
       small = subst (λ (n : ℕ). n < 2 ^ 56) (sym c.unwrap_or-3.ensures) (last_stays_small c.args.stated.last edit.last c.requires.sound.small (edit_small edit c.requires.grammar));
     }

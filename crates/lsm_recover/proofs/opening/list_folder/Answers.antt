@@ -1,5 +1,5 @@
 -- Each exit, by what the call told.
-use Rattle.std.proofs.Common.{◌≡◌, None, refl, sym, subst}
+use Rattle.std.proofs.Common.{◌≡◌, None, inl, refl, sym, subst}
 use Rattle.lsm_disk.specs.State.{Story, state_of, names_now}
 use Rattle.lsm_disk.specs.Listing.{listing}
 use Rattle.lsm_disk.specs.Refusals.{no_folder}
@@ -37,5 +37,6 @@ returns-in-Err-clause-cause g c =
     let old = seen c.args.disk.now in
     let new = seen c.list.new.self in
     let cause = c.in-Err.ensures.cause in
-    call_cause c.args.dir.now old new (NoFolder c.args.dir.now) c.refusal.result c.error_by.result c.error_by.ensures cause.faults_later cause.refusals_later
+    call_cause c.args.dir.now old new (NoFolder c.args.dir.now) c.refusal.result c.error_by.result c.error_by.ensures (inl c.refusal.ensures.made)
+    cause.faults_later cause.refusals_later
     (subst (HasRisen old new) (sym c.refusal.ensures.why) cause.counted) (λ rose. (refl, rose))

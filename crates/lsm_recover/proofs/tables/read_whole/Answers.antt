@@ -7,4 +7,4 @@ returns-then-found-info-clause-answer g c = λ text tells. short_refused c.args.
 
 pub returns-in-Err-clause-answer : goal.returns-in-Err-clause-answer
 returns-in-Err-clause-answer g c = λ text tells.
-    opening_refuses c.args.number c.args.info.now text (tells.whole ∙ sym c.len-found.ensures ∙ c.if-found-info.false) c.in-Err.error.why c.error_of.result c.error_of.ensures (c.in-Err.ensures.refused text tells)
+    opening_refuses c.args.number c.args.info.now text (tells.whole ∙ sym c.len-found.ensures ∙ c.if-found-info.false) c.in-Err.error.why c.table_error.result c.table_error.ensures (c.in-Err.ensures.refused text tells)

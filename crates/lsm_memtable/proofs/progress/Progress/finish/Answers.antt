@@ -1,5 +1,6 @@
-use Rattle.std.proofs.Common.{[], ap, ◌∙◌, sym, subst}
+use Rattle.std.proofs.Common.{[], ◌++◌, ap, ◌∙◌, sym, subst}
 use Rattle.lsm_table.specs.Cuts.{size_of}
+use Rattle.lsm_table.specs.WholeTables.{IsTable}
 use Rattle.lsm_table.specs.Building.{Built, IsBuilt, IsFinished}
 use Rattle.lsm_memtable.specs.Flushes.{bytes_of}
 use Rattle.lsm_memtable.proofs.Progresses.{progress_none, whole_built}
@@ -24,3 +25,11 @@ returns-clause-ok c =
     let f = c.in_ok-finished.finished in
     let whole : IsBuilt c.replace-whole.result rows (bytes_of rows p.taken) = subst (λ (b : Built). IsBuilt b rows (bytes_of rows p.taken)) (sym c.replace-whole.ensures.value) (whole_built p rows was all c.requires.taken) in
     subst (λ (b : Built). IsFinished b rows (bytes_of rows p.taken) f.tail f.size f.smallest f.largest) c.replace-whole.ensures.value (c.in_ok-finished.ensures.finished rows (bytes_of rows p.taken) whole)
+
+pub returns-clause-whole : goal.returns-clause-whole
+returns-clause-whole c =
+    λ rows was all are.
+    let p = c.args.self.now in
+    let f = c.in_ok-finished.finished in
+    let built : IsBuilt c.replace-whole.result rows (bytes_of rows p.taken) = subst (λ (b : Built). IsBuilt b rows (bytes_of rows p.taken)) (sym c.replace-whole.ensures.value) (whole_built p rows was all c.requires.taken) in
+    subst (λ (b : Built). IsTable (bytes_of rows p.taken ++ f.tail) rows b.number b.session) c.replace-whole.ensures.value (c.in_ok-finished.ensures.whole rows (bytes_of rows p.taken) built are)
