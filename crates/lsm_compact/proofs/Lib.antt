@@ -1,6 +1,8 @@
 pub mod Applying
 pub mod Ascending
+pub mod Drafts
 pub mod Growing
+pub mod Inputs
 pub mod Keeping
 pub mod Keys
 pub mod Levels
@@ -10,5 +12,11 @@ pub mod Members
 pub mod Newest
 pub mod Outside
 pub mod Picks
+pub mod Ports
 pub mod RangeLemmas
+pub mod Readers
 pub mod RowWeights
+pub mod RunOrder
+pub mod Stages
+pub mod WholeOutputs
+pub mod Writes

@@ -1,8 +1,14 @@
+pub mod Building
+pub mod Calls
 pub mod Closed
 pub mod Grown
 pub mod Installed
 pub mod Orderly
 pub mod Outputs
+pub mod Ports
 pub mod Ranges
+pub mod Readers
+pub mod Reading
 pub mod RowWeight
+pub mod Writing
 pub mod Written

@@ -16,9 +16,13 @@ use Rattle.lsm_compact.specs.Written.{AreWritten}
 abbrev pub full_len : ℕ
 full_len = 2097152
 
--- the bytes of the data blocks that these rows, the first of a table, have ended
+-- the text of the data blocks that these rows, the first of a table, have ended
+unfoldable pub ended_text : List Row → List ℕ
+ended_text rows = blocks_text (blocks_of (map row_entry rows)).ended
+
+-- and its length
 abbrev pub ended_len : List Row → ℕ
-ended_len rows = length (blocks_text (blocks_of (map row_entry rows)).ended)
+ended_len rows = length (ended_text rows)
 
 -- the table ends behind these rows, whatever follows
 unfoldable pub is_full : List Row → Bool

@@ -7,3 +7,4 @@ pub mod Ranges
 pub mod ReadLemmas
 pub mod SearchLemmas
 pub mod TableLemmas
+pub mod WholeRows

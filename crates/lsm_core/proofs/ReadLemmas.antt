@@ -9,7 +9,6 @@ use Rattle.lsm_io.specs.Causes.{Rose}
 use Rattle.lsm_names.specs.declared.file_names.FileName.{FileName}
 use Rattle.lsm_names.specs.declared.file_names.FileName.TheVariants.{Table as Named}
 use Rattle.lsm_rows.specs.declared.rows.Row.{Row}
-use Rattle.lsm_rows.specs.Contents.{newest}
 use Rattle.lsm_disk.specs.State as disk
 use Rattle.lsm_disk.specs.State.{Seen, Story, state_of, file_now, bytes_of}
 use Rattle.lsm_disk.specs.Images.{tree_now, bytes_at}
@@ -35,7 +34,7 @@ use Rattle.lsm_refine.specs.Refused.{CountsHold, LosesView, KeepsAllBut, IsLiveT
 use Rattle.lsm_refine.specs.Caused.{ReadBy}
 use Rattle.lsm_refine.proofs.FileLemmas.{whole_image}
 use Rattle.lsm_table.specs.Tables.{Opened}
-use Rattle.lsm_core.specs.Reading.{Views, Keeps, ClosesFailed, IsOutside, IsUnread, Asks, HoldsTable, IsTableOf, LooksInto, ToldTables, Reads, seen_with, read_error}
+use Rattle.lsm_core.specs.Reading.{Views, Keeps, ClosesFailed, IsOutside, IsUnread, Asks, HoldsTable, IsTableOf, ReadsTable, ToldTables, Reads, seen_with, read_error}
 use Rattle.lsm_core.proofs.AskLemmas.{outside_by, opened_bytes, read_cause, closed_rose}
 
 some_is : {X : Type 0} (x y : X) → Some x ≡ Some y → x ≡ y
@@ -210,6 +209,19 @@ reads_so First Second v w x y is so = record {
   exact = λ rows told. so rows (is.exact rows told);
 }
 
+-- behind a reading memory may be wanting
+pub reads_wanting : {T S : Type 0} (First : (ℕ → List Row) → T → Type 0) (Second : (ℕ → List Row) → S → Type 0) (v w : Shown)
+    (x : T)
+    → Reads First v w (Ok x) → Reads Second v w (Err error.NoMemory)
+unfolding IsOutside
+reads_wanting First Second v w x is = record {
+  counts = is.counts;
+  told = is.told;
+  by = (tt, (None, is.by));
+  unchanged = is.unchanged;
+  exact = λ rows told. tt;
+}
+
 -- ---- the exits
 
 module _ (home : List ℕ) (version : Tables) (old new : Seen) (views : Views) where
@@ -322,86 +334,84 @@ module _ (home : List ℕ) (version : Tables) (old new : Seen) (views : Views) w
     reads_put F x now tells told faults refusals finds =
         reads_ok told faults refusals (finmap.insert views number now) (tells_put now tells) F x (loses_put now) finds
 
-    -- a view was looked into
-    module _ (key : List ℕ) (later : Views) (r : Result (Option Row) TableFault) (looks : LooksInto number key views later r)
-      where
-        abbrev Newest : (ℕ → List Row) → Option Row → Type 0
-        Newest rows row = row ≡ newest key (rows number)
+    -- an open table was read
+    module _ {T : Type 0} (Finds : List Row → T → Type 0) (later : Views) (r : Result T TableFault)
+        (looks : ReadsTable Finds number views later r) where
+      abbrev FindsIn : (ℕ → List Row) → T → Type 0
+      FindsIn rows x = Finds (rows number) x
 
-        was_bytes : (rows : ℕ → List Row) (t : ToldTables v rows) → looks.was.bytes ≡ Some (t.tables.each number placed
-            there).bytes
-        was_bytes rows t = (t.tables.each number placed there).viewed looks.was looks.there
+      was_bytes : (rows : ℕ → List Row) (t : ToldTables v rows) → looks.was.bytes ≡ Some (t.tables.each number placed
+          there).bytes
+      was_bytes rows t = (t.tables.each number placed there).viewed looks.was looks.there
 
-        now_tells : TellsFile looks.now
-        now_tells rows t = looks.stays.bytes ∙ was_bytes rows t
+      now_tells : TellsFile looks.now
+      now_tells rows t = looks.stays.bytes ∙ was_bytes rows t
 
-        pub now_there : finmap.get later number ≡ Some looks.now
-        now_there =
-            ap (λ (x : Views). finmap.get x number) looks.new_is ∙ put_at looks.now number
-            ∙ ap (λ b. cond b (Some looks.now) (finmap.get views number)) (itself number)
+      pub now_there : finmap.get later number ≡ Some looks.now
+      now_there =
+          ap (λ (x : Views). finmap.get x number) looks.new_is ∙ put_at looks.now number
+          ∙ ap (λ b. cond b (Some looks.now) (finmap.get views number)) (itself number)
 
-        exact : (rows : ℕ → List Row) (t : ToldTables v rows) → MatchResult r (λ row. row ≡ newest key (rows number))
-            table.IsOutside
-        exact rows t =
-            let has = t.tables.each number placed there in
-            looks.exact has.bytes (rows number) number placed.info.session (was_bytes rows t) has.table
+      exact : (rows : ℕ → List Row) (t : ToldTables v rows) → MatchResult r (Finds (rows number)) table.IsOutside
+      exact rows t =
+          let has = t.tables.each number placed there in
+          looks.exact has.bytes (rows number) number placed.info.session (was_bytes rows t) has.table
 
-        module _ (told : new.told ≡ old.told) (faults : old.faults ≤ new.faults) (refusals : old.refusals ≤ new.refusals) where
-          pub looked_ok : (row : Option Row) → r ≡ Ok row → Reads Newest v (w later) (Ok row)
-          looked_ok row is =
-              subst (λ (x : Views). Reads Newest v (w x) (Ok row)) (sym looks.new_is)
-              (reads_put Newest row looks.now now_tells told faults refusals
-              (λ rows t. subst (λ o. MatchResult o (λ row. row ≡ newest key (rows number)) table.IsOutside) is (exact rows t)))
+      module _ (told : new.told ≡ old.told) (faults : old.faults ≤ new.faults) (refusals : old.refusals ≤ new.refusals) where
+        pub looked_ok : (x : T) → r ≡ Ok x → Reads FindsIn v (w later) (Ok x)
+        looked_ok x is =
+            subst (λ (views_now : Views). Reads FindsIn v (w views_now) (Ok x)) (sym looks.new_is)
+            (reads_put FindsIn x looks.now now_tells told faults refusals
+            (λ rows t. subst (λ o. MatchResult o (Finds (rows number)) table.IsOutside) is (exact rows t)))
 
-          fault_outside : (f : TableFault) → r ≡ Err f → (rows : ℕ → List Row) → ToldTables v rows → IsOutside (read_error
-              (Named number) f)
-          fault_outside f is rows t =
-              outside_by (Named number) f (subst (λ o. MatchResult o (λ row. row ≡ newest key (rows number)) table.IsOutside)
-              is (exact rows t))
+        fault_outside : (f : TableFault) → r ≡ Err f → (rows : ℕ → List Row) → ToldTables v rows → IsOutside (read_error
+            (Named number) f)
+        fault_outside f is rows t =
+            outside_by (Named number) f (subst (λ o. MatchResult o (Finds (rows number)) table.IsOutside) is (exact rows t))
 
-          pub looked_fault : (f : TableFault) → r ≡ Err f → IsUnread (Named number) old new (read_error (Named number) f)
-              → Reads Newest v (w later) (Err (read_error (Named number) f))
-          looked_fault f is unread =
-              subst (λ (x : Views). Reads Newest v (w x) (Err (read_error (Named number) f))) (sym looks.new_is)
-              (reads_err told faults refusals (finmap.insert views number looks.now) (tells_put looks.now now_tells) Newest
-              (read_error (Named number) f) None (loses_put looks.now)
-              (unread_refused (finmap.insert views number looks.now) (read_error (Named number) f) unread) (fault_outside f is))
+        pub looked_fault : (f : TableFault) → r ≡ Err f → IsUnread (Named number) old new (read_error (Named number) f)
+            → Reads FindsIn v (w later) (Err (read_error (Named number) f))
+        looked_fault f is unread =
+            subst (λ (x : Views). Reads FindsIn v (w x) (Err (read_error (Named number) f))) (sym looks.new_is)
+            (reads_err told faults refusals (finmap.insert views number looks.now) (tells_put looks.now now_tells) FindsIn
+            (read_error (Named number) f) None (loses_put looks.now)
+            (unread_refused (finmap.insert views number looks.now) (read_error (Named number) f) unread) (fault_outside f is))
 
-          -- the view failed, and was closed
-          gone_at : (q : ℕ) → finmap.get (finmap.remove later number) q ≡ cond (eq_by_cmp nat_cmp q number) None (finmap.get
-              later q)
-          gone_at q = finmap.get-remove nat_cmp_total later number q
+        -- the view failed, and was closed
+        gone_at : (q : ℕ) → finmap.get (finmap.remove later number) q ≡ cond (eq_by_cmp nat_cmp q number) None (finmap.get
+            later q)
+        gone_at q = finmap.get-remove nat_cmp_total later number q
 
-          later_at : (q : ℕ) → eq_by_cmp nat_cmp q number ≡ false → finmap.get later q ≡ finmap.get views q
-          later_at q other =
-              ap (λ (x : Views). finmap.get x q) looks.new_is ∙ put_at looks.now q
-              ∙ ap (λ b. cond b (Some looks.now) (finmap.get views q)) other
+        later_at : (q : ℕ) → eq_by_cmp nat_cmp q number ≡ false → finmap.get later q ≡ finmap.get views q
+        later_at q other =
+            ap (λ (x : Views). finmap.get x q) looks.new_is ∙ put_at looks.now q
+            ∙ ap (λ b. cond b (Some looks.now) (finmap.get views q)) other
 
-          loses_gone : LosesView (Some number) v.kept (w (finmap.remove later number)).kept
-          loses_gone q some = by (eq_by_cmp nat_cmp q number) refl
-            where
-              by : (b : Bool) → eq_by_cmp nat_cmp q number ≡ b
-                  → (Some number ≡ Some q) ⊎ (is_some (finmap.get (finmap.remove later number) q) ≡ true)
-              by true here = inl (ap Some (sym (same_number q number here)))
-              by false other =
-                  inr (ap is_some (gone_at q ∙ ap (λ b. cond b None (finmap.get later q)) other ∙ later_at q other) ∙ some)
+        loses_gone : LosesView (Some number) v.kept (w (finmap.remove later number)).kept
+        loses_gone q some = by (eq_by_cmp nat_cmp q number) refl
+          where
+            by : (b : Bool) → eq_by_cmp nat_cmp q number ≡ b
+                → (Some number ≡ Some q) ⊎ (is_some (finmap.get (finmap.remove later number) q) ≡ true)
+            by true here = inl (ap Some (sym (same_number q number here)))
+            by false other =
+                inr (ap is_some (gone_at q ∙ ap (λ b. cond b None (finmap.get later q)) other ∙ later_at q other) ∙ some)
 
-          tells_gone : (d : disk.State) → ViewsTell d v (finmap.remove later number)
-          tells_gone d q view is = by (eq_by_cmp nat_cmp q number) refl (sym (gone_at q) ∙ is)
-            where
-              by : (b : Bool) → eq_by_cmp nat_cmp q number ≡ b → cond (eq_by_cmp nat_cmp q number) None (finmap.get later q) ≡
-                  Some view
-                  → (finmap.get views q ≡ Some view) ⊎ (view.bytes ≡ bytes_at (tree_now d) (path_in home (Named q)))
-              by true here found =
-                  absurd (not_none view (sym (ap (λ b. cond b None (finmap.get later q)) here) ∙ found))
-              by false other found =
-                  inl (sym (later_at q other) ∙ sym (ap (λ b. cond b None (finmap.get later q)) other) ∙ found)
+        tells_gone : (d : disk.State) → ViewsTell d v (finmap.remove later number)
+        tells_gone d q view is = by (eq_by_cmp nat_cmp q number) refl (sym (gone_at q) ∙ is)
+          where
+            by : (b : Bool) → eq_by_cmp nat_cmp q number ≡ b → cond (eq_by_cmp nat_cmp q number) None (finmap.get later q) ≡
+                Some view
+                → (finmap.get views q ≡ Some view) ⊎ (view.bytes ≡ bytes_at (tree_now d) (path_in home (Named q)))
+            by true here found =
+                absurd (not_none view (sym (ap (λ b. cond b None (finmap.get later q)) here) ∙ found))
+            by false other found =
+                inl (sym (later_at q other) ∙ sym (ap (λ b. cond b None (finmap.get later q)) other) ∙ found)
 
-          pub looked_gone : r ≡ Err fault.ReadFault → Rose old.faults new.faults
-              → Reads Newest v (w (finmap.remove later number)) (Err error.DiskFault)
-          looked_gone is rose =
-              reads_err told faults refusals (finmap.remove later number) (λ rows t. tells_gone (state_of t.story)) Newest
-              error.DiskFault (Some number) loses_gone rose (λ rows t. fault_outside fault.ReadFault is rows t)
+        pub looked_gone : r ≡ Err fault.ReadFault → Rose old.faults new.faults
+            → Reads FindsIn v (w (finmap.remove later number)) (Err error.DiskFault)
+        looked_gone is rose =
+            reads_err told faults refusals (finmap.remove later number) (λ rows t. tells_gone (state_of t.story)) FindsIn
+            error.DiskFault (Some number) loses_gone rose (λ rows t. fault_outside fault.ReadFault is rows t)
 
 -- a table that is kept is open
 pub kept_is_open : {T : Type 0} (number named : ℕ) (views later : Views) (view : Viewed) (r : Result T StoreError) → named ≡
@@ -459,46 +469,46 @@ module _ (home : List ℕ) (version : Tables) (number : ℕ) (placed : Placed) (
           keeps.refusals,
         ))))
 
-  -- a table was looked into, and couldn't be read
-  module _ (key : List ℕ) (mid later : Views) (r : Result (Option Row) TableFault) (looks : LooksInto number key views mid r)
-    where
-      abbrev NewestRow : (ℕ → List Row) → Option Row → Type 0
-      NewestRow rows row = row ≡ newest key (rows number)
+  -- an open table couldn't be read
+  module _ {T : Type 0} (Finds : List Row → T → Type 0) (mid later : Views) (r : Result T TableFault)
+      (looks : ReadsTable Finds number views mid r) where
+    abbrev FindsThere : (ℕ → List Row) → T → Type 0
+    FindsThere rows x = Finds (rows number) x
 
-      abbrev ReadsTo : Seen → Views → StoreError → Type 0
-      ReadsTo seen x e = Reads NewestRow (seen_with old home version views) (seen_with seen home version x) (Err e)
+    abbrev ReadsTo : Seen → Views → StoreError → Type 0
+    ReadsTo seen x e = Reads FindsThere (seen_with old home version views) (seen_with seen home version x) (Err e)
 
-      still : (f : TableFault) → r ≡ Err f → (new ≡ old) × (later ≡ mid) → (f ≡ fault.ReadFault → ⊥) → ReadsTo new later
-          (read_error (Named number) f)
-      still f failed closes not =
-          subst (λ (s : Seen). ReadsTo s later (read_error (Named number) f)) (sym closes.0)
-          (subst (λ (x : Views). ReadsTo old x (read_error (Named number) f)) (sym closes.1)
-          (looked_fault home version old old views number placed there key mid r looks refl (omega arith) (omega arith) f failed
-          (read_cause number old old refl (omega arith) (omega arith) f (λ is. absurd (not is)))))
+    still : (f : TableFault) → r ≡ Err f → (new ≡ old) × (later ≡ mid) → (f ≡ fault.ReadFault → ⊥) → ReadsTo new later
+        (read_error (Named number) f)
+    still f failed closes not =
+        subst (λ (s : Seen). ReadsTo s later (read_error (Named number) f)) (sym closes.0)
+        (subst (λ (x : Views). ReadsTo old x (read_error (Named number) f)) (sym closes.1)
+        (looked_fault home version old old views number placed there Finds mid r looks refl (omega arith) (omega arith) f failed
+        (read_cause number old old refl (omega arith) (omega arith) f (λ is. absurd (not is)))))
 
-      was_rose : r ≡ Err fault.ReadFault → Rose looks.was.faults looks.now.faults
-      was_rose failed =
-          subst (λ o. IfErr o (λ e. e ≡ fault.ReadFault → Rose looks.was.faults looks.now.faults)) failed looks.cause refl
+    was_rose : r ≡ Err fault.ReadFault → Rose looks.was.faults looks.now.faults
+    was_rose failed =
+        subst (λ o. IfErr o (λ e. e ≡ fault.ReadFault → Rose looks.was.faults looks.now.faults)) failed looks.cause refl
 
-      gone : r ≡ Err fault.ReadFault → ClosesFailed number fault.ReadFault old new mid later → ReadsTo new later error.DiskFault
-      gone failed closes =
-          subst (λ (x : Views). ReadsTo new x error.DiskFault) (sym closes.1)
-          (looked_gone home version old new views number placed there key mid r looks closes.0.told closes.0.faults
-          closes.0.refusals failed
-          (closed_rose looks.was.faults looks.now.faults old.faults new.faults (was_rose failed)
-          (closes.2 looks.now (now_there home version old new views number placed there key mid r looks))))
+    gone : r ≡ Err fault.ReadFault → ClosesFailed number fault.ReadFault old new mid later → ReadsTo new later error.DiskFault
+    gone failed closes =
+        subst (λ (x : Views). ReadsTo new x error.DiskFault) (sym closes.1)
+        (looked_gone home version old new views number placed there Finds mid r looks closes.0.told closes.0.faults
+        closes.0.refusals failed
+        (closed_rose looks.was.faults looks.now.faults old.faults new.faults (was_rose failed)
+        (closes.2 looks.now (now_there home version old new views number placed there Finds mid r looks))))
 
-      by_fault : (f : TableFault) → r ≡ Err f → ClosesFailed number f old new mid later → ReadsTo new later (read_error (Named
-          number) f)
-      by_fault fault.ReadFault failed closes = gone failed closes
-      by_fault (fault.Damaged place kept found) failed closes = still (fault.Damaged place kept found) failed closes (λ is.
-          absurd (cc))
-      by_fault (fault.Malformed place) failed closes = still (fault.Malformed place) failed closes (λ is. absurd (cc))
-      by_fault fault.NoMemory failed closes = still fault.NoMemory failed closes (λ is. absurd (cc))
+    by_fault : (f : TableFault) → r ≡ Err f → ClosesFailed number f old new mid later → ReadsTo new later (read_error (Named
+        number) f)
+    by_fault fault.ReadFault failed closes = gone failed closes
+    by_fault (fault.Damaged place kept found) failed closes = still (fault.Damaged place kept found) failed closes (λ is.
+        absurd (cc))
+    by_fault (fault.Malformed place) failed closes = still (fault.Malformed place) failed closes (λ is. absurd (cc))
+    by_fault fault.NoMemory failed closes = still fault.NoMemory failed closes (λ is. absurd (cc))
 
-      pub looking_refused : (f : TableFault) (e : StoreError) → r ≡ Err f → e ≡ read_error (Named number) f
-          → ClosesFailed number f old new mid later → ReadsTo new later e
-      looking_refused f e failed is closes = subst (ReadsTo new later) (sym is) (by_fault f failed closes)
+    pub looking_refused : (f : TableFault) (e : StoreError) → r ≡ Err f → e ≡ read_error (Named number) f
+        → ClosesFailed number f old new mid later → ReadsTo new later e
+    looking_refused f e failed is closes = subst (ReadsTo new later) (sym is) (by_fault f failed closes)
 
 -- ---- in a store that keeps more
 

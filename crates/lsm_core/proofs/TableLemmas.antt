@@ -13,7 +13,6 @@ use Rattle.std.specs.Map.{lookup, set_value, remove_entry, keys_of}
 use Rattle.std.specs.BTreeMap.{insert_entry}
 use Rattle.std.specs.FinMap as finmap
 use Rattle.lsm_rows.specs.declared.rows.Row.{Row}
-use Rattle.lsm_rows.specs.Contents.{newest}
 use Rattle.lsm_frame.specs.Reader.{Tells, Stays}
 use Rattle.lsm_block.specs.declared.entries.Entry.{Entry}
 use Rattle.lsm_table.specs.Tables.{Opened}
@@ -27,7 +26,7 @@ use Rattle.lsm_table.specs.declared.faults.TableFault.{TableFault}
 use Rattle.lsm_table.specs.declared.faults.TableFault.TheVariants.{ReadFault}
 use Rattle.lsm_table.specs.Opening.{IsOutside}
 use Rattle.lsm_table.specs.WholeTables.{IsTable}
-use Rattle.lsm_core.specs.Reading.{Views, LooksInto}
+use Rattle.lsm_core.specs.Reading.{Views, ReadsTable}
 use Rattle.lsm_core.specs.Catalogs.{Numbered, views_of, IsWholeView, IsKeptTable, AreKeptTables}
 
 abbrev pub at : ℕ → ℕ → Bool
@@ -241,9 +240,9 @@ module _ (es new : List Numbered) (blocks later : Blocks) (views : Views) (seen 
       subst (λ (l : List Numbered). AreKeptTables l later) (sym same)
       (subst (AreKeptTables es) (sym forgot) (kept_forgotten es blocks kept n))
 
-  -- a table was looked into
-  module _ (n : ℕ) (key : List ℕ) (was now : Opened) (there : lookup (at n) es ≡ Some was) (kept : AreKeptTables es blocks)
-      (stays : Stays was.viewed now.viewed) (r : Result (Option Row) TableFault) where
+  -- a table was read
+  module _ (n : ℕ) {T : Type 0} (Finds : List Row → T → Type 0) (was now : Opened) (there : lookup (at n) es ≡ Some was)
+      (kept : AreKeptTables es blocks) (stays : Stays was.viewed now.viewed) (r : Result T TableFault) where
     pub looked_kept : IsStrictlySortedBy nat_cmp (keys_of es) → now.properties ≡ was.properties
         → (AreBlocksOf was blocks → AreBlocksOf now later)
         → ((e : BlockPlace × List Entry) → Contains later.entries e → e.0.number ≢ was.properties.number → Contains
@@ -255,9 +254,9 @@ module _ (es new : List Numbered) (blocks later : Blocks) (views : Views) (seen 
 
     pub looked : ((q : ℕ) → lookup (at q) new ≡ cond (at n q) (Some now) (lookup (at q) es))
         → (AreBlocksOf was blocks → (text : List ℕ) (rows : List Row) (number : ℕ) (session : List ℕ) → Tells was.viewed text
-        → IsTable text rows number session → MatchResult r (λ row. row ≡ newest key rows) IsOutside)
+        → IsTable text rows number session → MatchResult r (Finds rows) IsOutside)
         → IfErr r (λ e. e ≡ ReadFault → Rose was.viewed.faults now.viewed.faults)
-        → LooksInto n key views (views_of new) r
+        → ReadsTable Finds n views (views_of new) r
     looked updates whole cause = record {
       was = was.viewed;
       there = sym (ap (λ (v : Views). finmap.get v n) seen) ∙ view_at es n ∙ ap (option_map (λ (t : Opened). t.viewed)) there;

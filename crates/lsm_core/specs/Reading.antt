@@ -117,9 +117,10 @@ IsNamed number session table = (table.properties.number ≡ number) × (table.pr
 
 -- ---- open tables
 
--- The open table of this number was looked into for a key. Its view stays, and where it tells a
--- whole table the answer is the newest of its rows that have the key.
-pub record LooksInto (number : ℕ) (key : List ℕ) (old new : Views) (result : Result (Option Row) TableFault) : Type 0 where
+-- The open table of this number was read. Its view stays, and where it tells a whole table the answer
+-- is what is found in its rows.
+pub record ReadsTable {T : Type 0} (Finds : List Row → T → Type 0) (number : ℕ) (old new : Views) (result : Result T TableFault)
+    : Type 0 where
   pub was : Viewed
   pub there : finmap.get old number ≡ Some was
   pub now : Viewed
@@ -127,8 +128,13 @@ pub record LooksInto (number : ℕ) (key : List ℕ) (old new : Views) (result :
   pub stays : Stays was now
   pub exact : (text : List ℕ) (rows : List Row) (named : ℕ) (session : List ℕ) → was.bytes ≡ Some text → IsTable text rows
       named session
-      → MatchResult result (λ row. row ≡ newest key rows) table.IsOutside
+      → MatchResult result (Finds rows) table.IsOutside
   pub cause : IfErr result (λ e. e ≡ ReadFault → Rose was.faults now.faults)
+
+-- The open table of this number was looked into for a key: the answer is the newest of its rows that
+-- have the key.
+abbrev pub LooksInto : ℕ → List ℕ → Views → Views → Result (Option Row) TableFault → Type 0
+LooksInto number key old new result = ReadsTable (λ rows row. row ≡ newest key rows) number old new result
 
 -- The open table's view failed, and is closed; where it had failed the disk's count rises. Else
 -- nothing was done.

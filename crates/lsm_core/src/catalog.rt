@@ -1,22 +1,25 @@
 //! The catalog of a store.
-ghost use Rattle.std.specs.Prelude.{◌≡◌, ◌==◌, if◌then◌else◌};
+ghost use Rattle.std.specs.Prelude.{◌≡◌, ◌==◌, [], if◌then◌else◌};
 ghost use Rattle.std.specs.FinMap as finmap;
 ghost use Rattle.lsm_version.specs.Orders.{AreLevels};
 ghost use Rattle.lsm_core.specs.Looking.{AreOpened};
+ghost use Rattle.lsm_core.specs.Catalogs.{kept_with};
 ghost use Rattle.lsm_core.specs.Closing.{HasHandedBack};
 ghost use Rattle.lsm_core.specs.Reading.{Reads, seen_of};
+ghost use Rattle.lsm_folder.specs.Parts.{rows_of_tables};
 ghost use Rattle.lsm_core.specs.Searching.{FindsNewest, looked_at};
 ghost use Rattle.lsm_refine.specs.Calls.{is_own_kept};
 ghost use Rattle.lsm_refine.specs.Caused.{kept_pin_of, unpinned};
 
 use crate::looking::{Tables, open_looked};
 use crate::pins::{Pin, has_own};
+use crate::scanning::rows_of_tables;
 use crate::searching::search;
 use crate::tables::{OpenTables, close_all};
 use lsm_disk::{Disk, View};
 use lsm_model::StoreError;
 use lsm_names::Folder;
-use lsm_rows::Row;
+use lsm_rows::{Row, Rows};
 use lsm_version::Version;
 use std::alloc::Global;
 use std::marker::Model;
@@ -54,6 +57,22 @@ impl<V: View> Model for Catalog<V> {
 }
 
 impl<V: View> Catalog<V> {
+    /// A catalog of these live tables, of which some are open, with no pin: logs are needed from the number `log` on, and
+    /// rows up to the sequence `last` are in tables.
+    pub fn new(alloc: Global, version: Version, tables: OpenTables<V>, log: u64, last: u64) -> Self
+        ensures { result ≡ kept_with version tables log last [] 0 0 }
+    {
+        Catalog {
+            version,
+            tables,
+            log,
+            last,
+            pins: Vec::new(alloc),
+            greatest_pin: 0,
+            disables: 0,
+        }
+    }
+
     /// Ends the pin of this number, where one is there and its caller's own, and says whether it is
     /// so. It takes no memory.
     pub fn unpin(&mut self, number: u64) -> bool
@@ -108,6 +127,19 @@ pub fn find_row<D: Disk>(
         &mut catalog.tables,
         key,
     )
+}
+
+/// All rows of the live tables, as [`rows_of_tables`] reads them.
+pub fn read_rows<D: Disk>(
+    alloc: Global,
+    disk: &mut D,
+    home: &Folder,
+    catalog: &mut Catalog<D::View>,
+) -> Result<Rows, StoreError>
+    ensures { Reads (λ rows all. all ≡ rows_of_tables catalog.old.version rows) (seen_of (D.seen disk.old) home.now catalog.old)
+        (seen_of (D.seen disk.new) home.now catalog.new) result }
+{
+    rows_of_tables(alloc, disk, home, &catalog.version, &mut catalog.tables)
 }
 
 /// Opens the live tables that may have a key, each with a view of its own. Where it is refused,

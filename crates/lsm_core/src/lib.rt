@@ -7,10 +7,11 @@ mod looking;
 mod meeting;
 mod opening;
 mod pins;
+mod scanning;
 mod searching;
 mod tables;
 
-pub use catalog::{Catalog, close_tables, find_row, open_tables};
+pub use catalog::{Catalog, close_tables, find_row, open_tables, read_rows};
 pub use looking::{Tables, close_looked, look};
 pub use pins::{Job, Pin};
 pub use tables::OpenTables;

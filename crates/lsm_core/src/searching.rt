@@ -95,8 +95,8 @@ fn keep_open<D: Disk>(
     }
 }
 
-// Opens a live table, unless it is open.
-fn ensure_open<D: Disk>(
+/// Opens a live table, unless it is open.
+pub(crate) fn ensure_open<D: Disk>(
     alloc: Global,
     disk: &mut D,
     home: &Folder,
@@ -131,8 +131,8 @@ fn close_table<D: Disk>(disk: &mut D, tables: &mut OpenTables<D::View>, number: 
     }
 }
 
-// The store's answer where an open table can't be read. A view that failed is closed before.
-fn refuse<D: Disk>(
+/// The store's answer where an open table can't be read. A view that failed is closed before.
+pub(crate) fn refuse<D: Disk>(
     disk: &mut D,
     tables: &mut OpenTables<D::View>,
     number: u64,

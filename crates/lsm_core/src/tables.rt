@@ -1,13 +1,14 @@
 //! The tables that are open, and the blocks of them that are kept.
-ghost use Rattle.std.specs.Prelude.{◌≡◌, None, true, is_some, option_map, OnOk, OnErr, IfErr};
+ghost use Rattle.std.specs.Prelude.{◌≡◌, None, true, is_some, option_map, OnOk, OnErr, IfOk, IfErr};
 ghost use Rattle.std.specs.FinMap as finmap;
 ghost use Rattle.lsm_core.specs.Catalogs.{IsWholeView};
 ghost use Rattle.lsm_core.specs.Closing.{HasHandedBack};
-ghost use Rattle.lsm_core.specs.Reading.{LooksInto};
+ghost use Rattle.lsm_core.specs.Reading.{LooksInto, ReadsTable};
 
+use lsm_bytes::NoMemory;
 use lsm_cache::{BlockCache, cached_get};
 use lsm_disk::{Disk, View};
-use lsm_rows::Row;
+use lsm_rows::{Row, Rows};
 use lsm_table::{Table, TableFault};
 use std::alloc::{AllocFailed, Global};
 use std::collections::BTreeMap;
@@ -37,7 +38,21 @@ impl<V: View> Model for OpenTables<V> {
     ghost invariant = { λ t. AreKeptTables t.tables.entries t.blocks };
 }
 
+// So many data blocks are kept at most.
+const KEPT_BLOCKS: usize = 256;
+
 impl<V: View> OpenTables<V> {
+    /// No tables. It takes memory at once for the places of the blocks that are kept.
+    pub fn new(alloc: Global) -> Result<Self, NoMemory>
+        ensures { IfOk result (λ tables. tables ≡ finmap.empty) }
+    {
+        let blocks = BlockCache::new(alloc, KEPT_BLOCKS)?;
+        Ok(OpenTables {
+            tables: BTreeMap::new(alloc),
+            blocks,
+        })
+    }
+
     /// Whether the table of this number is open.
     pub(crate) fn is_open(&self, number: u64) -> bool
         ensures { result ≡ is_some (finmap.get self.now number) }
@@ -75,6 +90,17 @@ impl<V: View> OpenTables<V> {
         match self.tables.get_mut(&number) {
             Some(table) => cached_get(alloc, &mut self.blocks, table, key),
             None => Ok(None),
+        }
+    }
+
+    /// All rows of the open table of this number, in their order. No block of it is kept.
+    pub(crate) fn rows(&mut self, number: u64) -> Result<Rows, TableFault>
+        requires is_open { is_some (finmap.get self.old number) ≡ true }
+        ensures { ReadsTable (λ rows all. all ≡ rows) number self.old self.new result }
+    {
+        match self.tables.get_mut(&number) {
+            Some(table) => table.rows(None, u32::MAX),
+            None => return Err(TableFault::NoMemory),
         }
     }
 

@@ -55,6 +55,7 @@ impl<R: RowSource> Merge<R> {
         ensures ok { IfOk result (λ row. MatchOption row (IsOver R.left R.ended self.old self.new)
             (λ next. IsNext R.left self.old next self.new)) }
         ensures fewer { IfOk result (λ row. IfSome row (λ _. rows_to_come R.left self.new < rows_to_come R.left self.old)) }
+        ensures asked { OnOk result (self.new.asked ≡ length self.new.sources) }
         ensures count { rows_to_come R.left self.new ≤ rows_to_come R.left self.old }
         ensures err { OnErr result (KeepsRows R.left self.old self.new) }
         ensures cause { IfErr result (λ fault. HasCause R.fault fault self.new.sources) }

@@ -62,6 +62,7 @@ pub mod OpeningManifest
 pub mod OpeningRecovery
 pub mod OpeningRuns
 pub mod OpeningSays
+pub mod OpeningWays
 pub mod OtherFileLemmas
 pub mod OutsideLemmas
 pub mod PartsLemmas

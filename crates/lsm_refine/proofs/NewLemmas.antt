@@ -161,7 +161,7 @@ among_or_not (n ∷ names) name each fits =
     ] refl
 
 -- a number of files is one
-file_number : (n : ℕ) → 1 ≤ n → n < 2 ^ 56 - 1 → is_file_number n ≡ true
+pub file_number : (n : ℕ) → 1 ≤ n → n < 2 ^ 56 - 1 → is_file_number n ≡ true
 file_number n least most = grind (arith, nat_tests)
 
 -- a leftover is a file's name, and no log of the new store

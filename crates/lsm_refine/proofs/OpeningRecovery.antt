@@ -37,6 +37,30 @@ use Rattle.lsm_refine.proofs.RecoveredRows.{lesser_number, next_least, recovered
 use Rattle.lsm_refine.proofs.RecoveredStores.{table_each}
 use Rattle.lsm_refine.proofs.SwitchedLemmas.{name_elsewhere}
 
+-- a name whose number wasn't drawn is free
+undrawn_free : (dir : List ℕ) (d : disk.State) (r : Recovery) → IsRecovery d dir r → (name : FileName) → IsFileName name
+    → (IsDrawn r.next name → ⊥) → finmap.get (names_now d) (path_in dir name) ≡ None
+undrawn_free dir d r is name fits undrawn = by (finmap.get (names_now d) (path_in dir name)) refl
+  where
+    by : (o : Option Node) → finmap.get (names_now d) (path_in dir name) ≡ o → o ≡ None
+    by None at = refl
+    by (Some node) at = absurd (undrawn (All-contains (IsDrawn r.next) r.names name is.planned.behind
+        ((is.names.are name fits).1 (ap is_some at))))
+
+-- the numbers of an opening are files'
+pub number_fits : (dir : List ℕ) (d : disk.State) (r : Recovery) → IsRecovery d dir r → (number : ℕ) → r.next ≤ number
+    → number ≤ new_log r → is_file_number number ≡ true
+number_fits dir d r is number least most =
+    lesser_number number (new_log r) is.planned.fits (omega (arith, is.planned.some, least)) most
+
+-- the table's is one, and free
+pub table_free : (dir : List ℕ) (d : disk.State) (r : Recovery) → IsRecovery d dir r → IsFileName (Table r.next)
+    × (finmap.get (names_now d) (path_in dir (Table r.next)) ≡ None)
+table_free dir d r is =
+    let fits : IsFileName (Table r.next) =
+    number_fits dir d r is r.next (omega arith) (omega (arith, next_least r.table r.next)) in
+    (fits, undrawn_free dir d r is (Table r.next) fits (λ drawn. omega (arith, drawn)))
+
 module _ (dir : List ℕ) (named : is_folder_name dir ≡ true) (d : disk.State) (r : Recovery) (is : IsRecovery d dir r)
     (later : disk.State) (among : ChangesAmong dir (table_names r.table) d later) where
   abbrev first : ℕ
@@ -48,13 +72,11 @@ module _ (dir : List ℕ) (named : is_folder_name dir ≡ true) (d : disk.State)
   next_m : r.next ≤ new_manifest r
   next_m = next_least r.table r.next
 
-  -- the numbers of an opening are files'
-  number_fits : (number : ℕ) → r.next ≤ number → number ≤ new_log r → is_file_number number ≡ true
-  number_fits number least most =
-      lesser_number number (new_log r) is.planned.fits (omega (arith, is.planned.some, least)) most
+  pub manifest_fits : IsFileName (Manifest (new_manifest r))
+  manifest_fits = number_fits dir d r is (new_manifest r) next_m (omega arith)
 
   table_fits : IsFileName (Table r.next)
-  table_fits = number_fits r.next (omega arith) (omega (arith, next_m))
+  table_fits = (table_free dir d r is).0
 
   all_fit : All IsFileName (table_names r.table)
   all_fit = table_each IsFileName first r.batches r.next r.table is.planned.takes table_fits
@@ -63,16 +85,10 @@ module _ (dir : List ℕ) (named : is_folder_name dir ≡ true) (d : disk.State)
   elsewhere name fits differs = name_elsewhere dir named names all_fit d later among name fits
       (table_each (λ (n : FileName). name ≢ n) first r.batches r.next r.table is.planned.takes differs)
 
-  -- a name whose number wasn't drawn is free
   free_name : (name : FileName) → IsFileName name → name ≢ Table r.next → (IsDrawn r.next name → ⊥)
       → finmap.get (names_now later) (path_in dir name) ≡ None
   free_name name fits differs undrawn = among.now (path_in dir name) (elsewhere name fits differs)
-      ∙ by (finmap.get (names_now d) (path_in dir name)) refl
-    where
-      by : (o : Option Node) → finmap.get (names_now d) (path_in dir name) ≡ o → o ≡ None
-      by None at = refl
-      by (Some node) at = absurd (undrawn (All-contains (IsDrawn r.next) r.names name is.planned.behind
-          ((is.names.are name fits).1 (ap is_some at))))
+      ∙ undrawn_free dir d r is name fits undrawn
 
   no_log : (number : ℕ) → new_log r ≤ number → IsFileName (Log number)
       → finmap.get (names_now later) (path_in dir (Log number)) ≡ None
@@ -82,9 +98,9 @@ module _ (dir : List ℕ) (named : is_folder_name dir ≡ true) (d : disk.State)
       × (finmap.get (names_now later) (path_in dir (Temp (new_manifest r))) ≡ None)
       × (finmap.get (names_now later) (path_in dir (Log (new_log r))) ≡ None)
   free_names = (
-    free_name (Manifest (new_manifest r)) (number_fits (new_manifest r) next_m (omega arith)) (λ same. cc)
+    free_name (Manifest (new_manifest r)) manifest_fits (λ same. cc)
         (λ drawn. omega (arith, drawn, next_m)),
-    free_name (Temp (new_manifest r)) (number_fits (new_manifest r) next_m (omega arith)) (λ same. cc)
+    free_name (Temp (new_manifest r)) manifest_fits (λ same. cc)
         (λ drawn. omega (arith, drawn, next_m)),
     no_log (new_log r) (omega arith) is.planned.fits,
   )
@@ -158,7 +174,7 @@ module _ (dir : List ℕ) (named : is_folder_name dir ≡ true) (d : disk.State)
             (sym (rows_there t.info.number t.rows found number
             (λ same. omega (arith, below number placed listed_before, takes.0, same)))) (old_table number placed listed_before)
 
-    log_is : log_after (opening_edits r) ≡ new_log r
+    pub log_is : log_after (opening_edits r) ≡ new_log r
     log_is = recovered_log (files_in dir (tree_now d)) r is.read is.planned below contents sequence stands
 
     tables_are : tables_after (opening_edits r) ≡ new_version r

@@ -1,5 +1,5 @@
 -- The runs of an opening, part by part: each image on the way is kept from the start.
-use Rattle.std.specs.Prelude.{◌≡◌, ◌⊎◌, ℕ, true, List, length, Option, Some, None}
+use Rattle.std.specs.Prelude.{◌≡◌, ◌⊎◌, ℕ, true, List, [], ◌∷◌, length, Option, Some, None}
 use Rattle.std.specs.FinMap as finmap
 use Rattle.lsm_names.specs.Folders.{is_folder_name}
 use Rattle.lsm_names.specs.FileNames.{IsFileName}
@@ -21,8 +21,9 @@ use Rattle.lsm_folder.specs.Manifests.{manifest_text, log_after}
 use Rattle.lsm_refine.specs.Sane.{IsWholeFile}
 use Rattle.lsm_refine.specs.Beside.{WritesNew, MakesAt}
 use Rattle.lsm_refine.specs.Naming.{Replaces, ReplacesAt}
+use Rattle.lsm_refine.specs.New.{first_edit}
 use Rattle.lsm_refine.specs.Openings.{IsKeptImage}
-use Rattle.lsm_refine.specs.OpeningImages.{KeepsFolder, IsAtRest, AllStand, AllFresh, SaysAs, MayBecome, HasOldOrNamesNew, HasNoneOrNamesNew}
+use Rattle.lsm_refine.specs.OpeningImages.{KeepsFolder, IsAtRest, AllStand, AllFresh, SaysAs, MayBecome, HasOldOrNamesNew, HasNoneOrNamesNew, MaySwitch, MayBegin, MayMakeLog}
 use Rattle.lsm_refine.proofs.NewFileLemmas.{went_making}
 use Rattle.lsm_refine.proofs.OpeningBeside.{beside_kept}
 use Rattle.lsm_refine.proofs.OpeningGoesOn.{image_both}
@@ -164,3 +165,37 @@ module _ (dir : List ℕ) (named : is_folder_name dir ≡ true) (start : State) 
         (went_wider (Making (path_in dir (Log (log_after edits)))) (WritesNew (path_in dir (Log (log_after edits))) first)
         (MayHaveNew d (path_in dir (Log (log_after edits)))) (MayHaveNew d (path_in dir (Log (log_after edits))))
         (as_written (path_in dir (Log (log_after edits))) first) (λ x t held. held) went))
+
+-- ---- the parts, by how far the opening has come
+
+module _ (dir : List ℕ) (named : is_folder_name dir ≡ true) (start : State) (before : Story) (number : ℕ) where
+  -- behind the switch of CURRENT the empty log may be made, where it was Ok
+  pub switch_went : (edits : List Edit) (may : MaySwitch dir start (state_of before) number edits)
+      → {told : Option Story} {P : State → Tree → Type 0} (J : State → Type 0)
+      → ((x : State) (t : Tree) → P x t → HasOldOrNamesNew dir (current_text may.found) number edits t)
+      → Went before told (Replaces dir number (length (state_of before).files)) P J
+      → Went before told (Replaces dir number (length (state_of before).files)) (Keeps dir start)
+      (λ x. (J x × ReplacesAt dir number (state_of before) x) × KeepsFolder dir start x)
+  switch_went edits may J shows went =
+      manifest_went dir named start before may.kept may.rest number may.numbered may.contents may.sequence may.may edits
+      may.says J may.stand (current_text may.found) may.current may.no_manifest may.no_temporary shows went
+
+  pub begin_went : MayBegin dir start (state_of before) number
+      → {told : Option Story} {P : State → Tree → Type 0} (J : State → Type 0)
+      → ((x : State) (t : Tree) → P x t → HasNoneOrNamesNew dir number (first_edit number ∷ []) t)
+      → Went before told (Replaces dir number (length (state_of before).files)) P J
+      → Went before told (Replaces dir number (length (state_of before).files)) (Keeps dir start)
+      (λ x. (J x × ReplacesAt dir number (state_of before) x) × KeepsFolder dir start x)
+  begin_went may J shows went =
+      first_manifest_went dir named start before may.kept may.rest number may.numbered finmap.empty 0 may.may
+      (first_edit number ∷ []) may.says J may.fresh may.folder shows went
+
+  pub made_went : (edits : List Edit) → MayMakeLog dir start (state_of before) number edits
+      → {told : Option Story} (J : State → Type 0)
+      → Went before told (Making (path_in dir (Log (log_after edits))))
+      (MayHaveNew (state_of before) (path_in dir (Log (log_after edits)))) J
+      → Went before told (WritesNew (path_in dir (Log (log_after edits))) (length (state_of before).files)) (Keeps dir start)
+      (λ x. (J x × MakesAt dir (Log (log_after edits)) (state_of before) x) × KeepsFolder dir start x)
+  made_went edits may J went =
+      log_went dir named start before may.kept may.rest number may.numbered may.contents may.sequence may.may edits may.says J
+      may.folder may.current may.manifest may.log_fits went

@@ -59,8 +59,9 @@ pub use move_laws::a_moved_folder_leaves_the_stores_own;
 pub use new_laws::{a_fresh_folder_is_vacant, a_new_folder_is_vacant, a_new_store_is_made};
 pub use opening_images::{
     a_new_file_beside_keeps_the_folder, a_new_folder_is_fresh, a_new_manifest_keeps_the_folder,
-    a_new_manifest_would_say_the_same, a_read_folder_would_stand, an_empty_log_keeps_the_folder,
-    an_opening_may_begin, an_opening_may_go_on, what_was_found_is_whole,
+    a_new_manifest_would_say_the_same, a_part_of_an_opening_leads_to_the_next,
+    a_read_folder_would_stand, an_empty_log_keeps_the_folder, an_opening_may_begin,
+    an_opening_may_go_on, what_was_found_is_whole,
 };
 pub use opening_laws::{
     a_folder_that_stands_is_opened, a_new_manifest_says_what_was_found,

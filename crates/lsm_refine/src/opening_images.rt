@@ -25,12 +25,12 @@ ghost use Rattle.lsm_refine.specs.Sane.{IsWholeFile, TablesAreSynced};
 ghost use Rattle.lsm_refine.specs.Pins.{AreClearable};
 ghost use Rattle.lsm_refine.specs.Beside.{LeadToFiles, MakesAt};
 ghost use Rattle.lsm_refine.specs.Among.{ChangesAmong};
-ghost use Rattle.lsm_refine.specs.Naming.{ReplacesAt};
+ghost use Rattle.lsm_refine.specs.Naming.{ReplacesAt, HasReplaced};
 ghost use Rattle.lsm_refine.specs.New.{first_edit};
 ghost use Rattle.lsm_refine.specs.Vacant.{with_folder};
 ghost use Rattle.lsm_refine.specs.Openings.{IsFound, StandsAs, IsKeptImage, LosesNothing};
-ghost use Rattle.lsm_refine.specs.OpeningImages.{KeepsFolder, IsAtRest, AllStand, AllFresh, SaysAs, MayBecome, HasOldOrNamesNew, HasNoneOrNamesNew};
-ghost use Rattle.lsm_refine.specs.FoundFolder.{Recovery, IsRecovery, HasNewTable, new_manifest, new_log, table_names, opening_edits};
+ghost use Rattle.lsm_refine.specs.OpeningImages.{KeepsFolder, IsAtRest, AllStand, AllFresh, SaysAs, MayBecome, HasOldOrNamesNew, HasNoneOrNamesNew, MaySwitch, MayBegin, MayMakeLog};
+ghost use Rattle.lsm_refine.specs.FoundFolder.{NewTable, Recovery, IsRecovery, HasNewTable, new_manifest, new_log, table_names, opening_edits};
 
 /// An opening begins with the disk as it was found. A sync of names or of a file brings no image
 /// that wasn't there before, and what was found is found still.
@@ -155,4 +155,29 @@ pub fn an_empty_log_keeps_the_folder()
         → IsFileName (Log (log_after edits))
         → (later : disk.State) → MakesAt dir (Log (log_after edits)) d later → (t : Tree) → IsImage later t
         → MayHaveNew d (path_in dir (Log (log_after edits))) later t → IsKeptImage dir start t }
+{}
+
+/// Behind each part of an opening the next one may go on: where the folder is read, the new manifest
+/// may be made, also behind the table of the logs' rows; in a fresh folder the first manifest may
+/// be; and behind the manifest the empty log.
+pub fn a_part_of_an_opening_leads_to_the_next()
+    ensures plain { (dir : List ℕ) → is_folder_name dir ≡ true → (start d : disk.State) → KeepsFolder dir start d
+        → IsAtRest dir d → TablesAreSynced d dir → (r : Recovery) → IsRecovery d dir r → r.table ≡ None
+        → MaySwitch dir start d (new_manifest r) (opening_edits r) }
+    ensures writing { (dir : List ℕ) → is_folder_name dir ≡ true → (start d : disk.State) → KeepsFolder dir start d
+        → IsAtRest dir d → TablesAreSynced d dir → (r : Recovery) → IsRecovery d dir r → (new : NewTable) → r.table ≡ Some new
+        → (later : disk.State) → MakesAt dir (Table new.info.number) d later → KeepsFolder dir start later }
+    ensures table { (dir : List ℕ) → is_folder_name dir ≡ true → (start d : disk.State) → KeepsFolder dir start d
+        → IsAtRest dir d → TablesAreSynced d dir → (r : Recovery) → IsRecovery d dir r → (new : NewTable) → r.table ≡ Some new
+        → (later : disk.State) → MakesAt dir (Table new.info.number) d later → later.pending ≡ []
+        → HasNewTable later dir r.table → MaySwitch dir start later (new_manifest r) (opening_edits r) }
+    ensures fresh { (dir : List ℕ) → is_folder_name dir ≡ true → (start d : disk.State) → KeepsFolder dir start d
+        → IsAtRest dir d → finmap.get (names_now d) dir ≡ Some Folder_node → IsFresh (place_of dir (tree_now d)) → (m : ℕ) → 1 ≤ m
+        → m + 2 < 2 ^ 56 → MayBegin dir start d m }
+    ensures switched { (dir : List ℕ) → is_folder_name dir ≡ true → (start d : disk.State) (number : ℕ) (edits : List Edit)
+        → MaySwitch dir start d number edits → (later : disk.State) → KeepsFolder dir start later
+        → ReplacesAt dir number d later → HasReplaced later dir number edits → MayMakeLog dir start later number edits }
+    ensures begun { (dir : List ℕ) → is_folder_name dir ≡ true → (start d : disk.State) (number : ℕ)
+        → MayBegin dir start d number → (later : disk.State) → KeepsFolder dir start later → ReplacesAt dir number d later
+        → HasReplaced later dir number (first_edit number ∷ []) → MayMakeLog dir start later number (first_edit number ∷ []) }
 {}

@@ -5,6 +5,8 @@ pub mod Freezes
 pub mod Gets
 pub mod Logs
 pub mod Probes
+pub mod Scans
+pub mod Shows
 pub mod Syncs
 pub mod Tellings
 pub mod Writes

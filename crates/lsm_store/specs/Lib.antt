@@ -3,4 +3,5 @@ pub mod Closing
 pub mod Fields
 pub mod Inside
 pub mod Reading
+pub mod Showing
 pub mod Syncing

@@ -8,6 +8,8 @@ mod pinning;
 mod probing;
 mod reading;
 mod refused;
+mod scanning;
+mod showing;
 mod store;
 mod syncing;
 mod telling;

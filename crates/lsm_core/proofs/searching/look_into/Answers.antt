@@ -1,4 +1,5 @@
-use Rattle.std.proofs.Common.{refl, arith}
+use Rattle.std.proofs.Common.{◌≡◌, refl, arith}
+use Rattle.lsm_rows.specs.Contents.{newest}
 use Rattle.lsm_core.proofs.ReadLemmas.{looked_ok, looking_refused}
 use Rattle.lsm_core.proofs.searching.look_into.Goals as goal
 
@@ -6,11 +7,11 @@ pub returns-in-Ok : goal.returns-in-Ok
 returns-in-Ok g c = λ home version placed there.
     looked_ok home version (g.D.Disk.seen c.args.disk.now) (g.D.Disk.seen c.args.disk.now) c.args.tables.now c.args.number
     placed there
-    c.args.key.now c.get.new.self c.get.result c.get.ensures refl (omega arith) (omega arith) c.in-Ok.row c.in-Ok.is
+    (λ rows row. row ≡ newest c.args.key.now rows) c.get.new.self c.get.result c.get.ensures refl (omega arith) (omega arith) c.in-Ok.row c.in-Ok.is
 
 pub returns-in-Err : goal.returns-in-Err
 returns-in-Err g c = λ home version placed there.
     looking_refused home version c.args.number placed there (g.D.Disk.seen c.args.disk.now) (g.D.Disk.seen c.refuse.new.disk)
-    c.args.tables.now c.args.key.now c.get.new.self c.refuse.new.tables c.get.result c.get.ensures c.in-Err.fault
+    c.args.tables.now (λ rows row. row ≡ newest c.args.key.now rows) c.get.new.self c.refuse.new.tables c.get.result c.get.ensures c.in-Err.fault
     c.refuse.result
     c.in-Err.is c.refuse.ensures.answer c.refuse.ensures.closes

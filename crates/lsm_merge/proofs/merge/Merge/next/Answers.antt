@@ -1,4 +1,4 @@
-use Rattle.std.proofs.Common.{subst, sym}
+use Rattle.std.proofs.Common.{◌≡◌, length, subst, sym}
 use Rattle.std.specs.Prelude.{Ok}
 use Rattle.lsm_merge.specs.Merging.{Merging, ToldFaults}
 use Rattle.lsm_merge.proofs.Giving.{close_gives, close_ready, close_ahead, close_fewer, close_count}
@@ -41,3 +41,7 @@ pub returns-clause-count : goal.returns-clause-count
 returns-clause-count g c =
     close_count g.R.RowSource.left g.R.RowSource.ended _ _ _ _ c.self.view_is c.take.ensures.after
     c.in_ok-find.ensures.step.count
+
+pub returns-clause-asked : goal.returns-clause-asked
+returns-clause-asked g c =
+    subst (λ (m : Merging g.row.R.Denot). m.asked ≡ length m.sources) (sym c.self.view_is) c.in_ok-find.ensures.ok.asked
