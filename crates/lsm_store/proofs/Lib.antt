@@ -4,6 +4,16 @@ pub mod Counting
 pub mod Freezes
 pub mod Gets
 pub mod Logs
+pub mod NewFiles
+pub mod NewFolders
+pub mod NewImages
+pub mod NewInside
+pub mod NewStores
+pub mod OpenBegins
+pub mod OpenBeside
+pub mod OpenCauses
+pub mod OpenFound
+pub mod OpenNew
 pub mod Probes
 pub mod Scans
 pub mod Shows

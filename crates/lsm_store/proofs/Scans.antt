@@ -1,6 +1,6 @@
 -- All pairs, at each exit.
 use Rattle.std.specs.Prelude.{◌≡◌, ℕ, ◌<◌, ◌≤◌, List, [], ◌∷◌, ◌++◌, take, length, if◌then◌else◌, None, Result, Ok, Err, is_ok}
-use Rattle.std.proofs.Common.{refl, ap, sym, subst, ◌∙◌, arith}
+use Rattle.std.proofs.Common.{refl, ap, subst, ◌∙◌, arith}
 use Rattle.std.proofs.lemmas.List.{take_all, length-take}
 use Rattle.lsm_block.specs.Runs.{rows_after}
 use Rattle.lsm_rows.specs.declared.rows.Row.{Row}

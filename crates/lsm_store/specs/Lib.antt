@@ -2,6 +2,8 @@ pub mod Answering
 pub mod Closing
 pub mod Fields
 pub mod Inside
+pub mod NewStores
+pub mod Opening
 pub mod Reading
 pub mod Showing
 pub mod Syncing

@@ -4,6 +4,8 @@
 
 mod closing;
 mod freezing;
+mod opening;
+mod opening_new;
 mod pinning;
 mod probing;
 mod reading;

@@ -46,8 +46,8 @@ impl<D: Disk> Store<D> {
     }
 }
 
-// The store's answer for a folder that could not be read.
-fn folder_error(trouble: FolderError) -> StoreError
+/// The store's answer for a folder that could not be read.
+pub(crate) fn folder_error(trouble: FolderError) -> StoreError
     ensures { result ≡ folder_error trouble }
 {
     match trouble {

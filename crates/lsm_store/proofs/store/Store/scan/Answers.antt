@@ -1,5 +1,5 @@
 -- Each exit is a lemma of `Scans`, at what the store held before the call.
-use Rattle.std.specs.Prelude.{◌≡◌, List, Result, Ok, Err}
+use Rattle.std.specs.Prelude.{Result}
 use Rattle.std.proofs.Common.{sym, subst}
 use Rattle.lsm_rows.specs.Replay.{Contents}
 use Rattle.lsm_disk.specs.State.{Seen}

@@ -1,5 +1,5 @@
 -- Each exit is a lemma of `Shows`, at what the store held before the call.
-use Rattle.std.specs.Prelude.{◌≡◌, ℕ, ◌+◌, ◌≤◌, length, Result, Ok, Err}
+use Rattle.std.specs.Prelude.{ℕ, ◌+◌, ◌≤◌, length, Result}
 use Rattle.std.proofs.Common.{ap, sym, subst, arith, rules}
 use Rattle.lsm_disk.specs.State.{Seen}
 use Rattle.lsm_model.specs.declared.errors.StoreError.{StoreError}

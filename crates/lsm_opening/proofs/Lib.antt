@@ -1,0 +1,10 @@
+pub mod Founds
+pub mod Installs
+pub mod KeptExits
+pub mod KeptWays
+pub mod RecoveredFolders
+pub mod Replaced
+pub mod RowFiles
+pub mod RowTables
+pub mod TopTables
+pub mod WholeEdits
