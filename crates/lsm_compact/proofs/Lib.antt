@@ -1,5 +1,6 @@
 pub mod Applying
 pub mod Ascending
+pub mod Compacts
 pub mod Drafts
 pub mod Growing
 pub mod Inputs
@@ -18,5 +19,6 @@ pub mod Readers
 pub mod RowWeights
 pub mod RunOrder
 pub mod Stages
+pub mod UnderWay
 pub mod WholeOutputs
 pub mod Writes

@@ -8,25 +8,37 @@ use Rattle.lsm_compact.specs.declared.outputs.Stage.{Stage}
 use Rattle.lsm_compact.specs.declared.outputs.Stage.TheVariants.{Closed, Open, Ending, Sealing}
 use Rattle.lsm_compact.specs.Building.{Table}
 use Rattle.lsm_compact.specs.Outputs.{ended_len, is_full}
-use Rattle.lsm_compact.specs.Writing.{CanAdd, CanEnd, HasNoMore, HasNoPiece, IsBegun, IsGrown, IsNotToEnd, IsSettled, IsSound, IsToEnd, MayEnd, open_rows}
+use Rattle.lsm_compact.specs.Writing.{CanAdd, CanEnd, HasNoMore, HasNoPiece, HasRow, IsBegun, IsGrown, IsNotToEnd, IsSettled, IsSound, IsToEnd, MayEnd, open_rows}
 use Rattle.lsm_compact.proofs.Keys.{untrue}
 use Rattle.lsm_compact.proofs.Drafts.{no_rows, no_ended}
 
 -- ---- rows
 
-pub same_rows : (old new : Stage) → open_rows new ≡ open_rows old → HasNoMore old new
+pub same_stage : (stage : Stage) → HasNoMore stage stage
 unfolding HasNoMore
-same_rows old new is = inl is
+same_stage stage = (inl refl, λ some. some)
 
-pub none_now : (old new : Stage) → open_rows new ≡ [] → HasNoMore old new
+pub same_table : (old : Stage) (table new : Table) (piece bytes : List ℕ) (ended len : ℕ) → old ≡ Open table piece ended
+    → new.rows ≡ table.rows → HasNoMore old (Open new bytes len)
 unfolding HasNoMore
-none_now old new is = inr is
+same_table old table new piece bytes ended len is rows = (
+  inl (rows ∙ ap open_rows (sym is)),
+  λ some.
+      subst (λ (r : List Row). 1 ≤ length r) (sym rows) (subst HasRow is some),
+)
+
+pub none_now : (old new : Stage) → open_rows new ≡ [] → HasRow new → HasNoMore old new
+unfolding HasNoMore
+none_now old new is some = (inr is, λ _. some)
 
 -- one call after another
 pub no_more : (a b c : Stage) → HasNoMore a b → HasNoMore b c → HasNoMore a c
 unfolding HasNoMore
-no_more a b c first second = elim second
-    [ inr none ↦ inr none | inl same ↦ elim first [ inl is ↦ inl (same ∙ is) | inr none ↦ inr (same ∙ none) ] ]
+no_more a b c first second = (
+  elim second.0
+      [ inr none ↦ inr none | inl same ↦ elim first.0 [ inl is ↦ inl (same ∙ is) | inr none ↦ inr (same ∙ none) ] ],
+  λ some. second.1 (first.1 some),
+)
 
 -- ---- full tables
 

@@ -26,7 +26,7 @@ pub one_more : (calls : List Called) (call : Called) → files_after (calls ++ c
 unfolding files_after
 one_more calls call = fold_push did no_files calls call
 
-all_joined : (xs ys : List Called) → AreTaken xs → AreTaken ys → AreTaken (xs ++ ys)
+pub all_joined : (xs ys : List Called) → AreTaken xs → AreTaken ys → AreTaken (xs ++ ys)
 all_joined [] ys a b = b
 all_joined (x ∷ xs) ys a b = (a.0, all_joined xs ys a.1 b)
 
@@ -54,7 +54,7 @@ one_refused : (call : Called) (fault : PortFault) → fault_of call ≡ Some fau
 unfolding AreAnswered
 one_refused call fault is = ([], call, refl, tt, is)
 
-taken_of : (calls : List Called) → AreAnswered None calls → AreTaken calls
+pub taken_of : (calls : List Called) → AreAnswered None calls → AreTaken calls
 unfolding AreAnswered
 taken_of calls answered = answered
 

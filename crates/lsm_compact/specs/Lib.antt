@@ -1,6 +1,7 @@
 pub mod Building
 pub mod Calls
 pub mod Closed
+pub mod Compacting
 pub mod Grown
 pub mod Installed
 pub mod Orderly
@@ -10,5 +11,6 @@ pub mod Ranges
 pub mod Readers
 pub mod Reading
 pub mod RowWeight
+pub mod Steps
 pub mod Writing
 pub mod Written

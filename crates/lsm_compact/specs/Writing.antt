@@ -166,9 +166,16 @@ IsSound over (Open table piece ended) = IsGrown over table ended
 IsSound over (Ending number tail) = Unit {0}
 IsSound over (Sealing number) = Unit {0}
 
--- no row has come into the table that is open, and it may have been ended
+-- the table that is open, if one is, has a row
+abbrev pub HasRow : Stage → Type 0
+HasRow Closed = Unit {0}
+HasRow (Open table piece ended) = 1 ≤ length table.rows
+HasRow (Ending number tail) = Unit {0}
+HasRow (Sealing number) = Unit {0}
+
+-- no row has come into the table that is open, and it may have been ended; no empty one was begun
 unfoldable pub HasNoMore : Stage → Stage → Type 0
-HasNoMore old new = (open_rows new ≡ open_rows old) ⊎ (open_rows new ≡ [])
+HasNoMore old new = ((open_rows new ≡ open_rows old) ⊎ (open_rows new ≡ [])) × (HasRow old → HasRow new)
 
 -- no table is open, or one that isn't full, and all bytes of its ended blocks are appended
 abbrev pub IsSettled : Stage → Type 0

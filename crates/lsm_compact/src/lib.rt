@@ -1,6 +1,7 @@
 //! Compactions: tables are merged into a deeper level, which keeps what they stand for.
 #![tactic(auto)]
 
+mod compaction;
 mod deeper;
 mod draft;
 mod input;
@@ -9,6 +10,7 @@ mod outputs;
 mod port;
 mod reader;
 
+pub use compaction::{CompactStep, Compaction};
 pub use deeper::Deeper;
 pub use draft::Draft;
 pub use laws::{

@@ -55,6 +55,7 @@ impl Outputs {
     pub fn new(alloc: Global, level: u8) -> Self
         ensures level { result.level ≡ level }
         ensures writing { IsWriting false result no_files [] }
+        ensures stage { result.stage ≡ Closed }
     {
         Outputs {
             alloc,
@@ -107,6 +108,7 @@ impl Outputs {
         ensures adds { result ≡ self.old.adds }
         ensures whole { (files : Files) (written : List Row) → IsWriting true self.old files written → self.old.stage ≡ Closed
             → IsWhole self.old.level result files written }
+        ensures stage { self.new.stage ≡ self.old.stage }
     {
         replace(&mut self.adds, Adds::new(self.alloc))
     }
@@ -183,7 +185,7 @@ impl Outputs {
             → IsWriting false self.old (files_after calls) written
             → Goes P.went start calls port.new false self.new written (fault_in result) }
         ensures begun { IsSettled self.old.stage → OnOk result (IsBegun self.new.stage) }
-        ensures rows { HasNoMore self.old.stage self.new.stage }
+        ensures rows { open_rows self.new.stage ≡ open_rows self.old.stage }
         ensures sound { (over : Bool) → IsSound over self.old.stage → IsSound over self.new.stage }
         ensures port { IsKept P.told P.faults port.old port.new (fault_in result) }
         ensures level { self.new.level ≡ self.old.level }

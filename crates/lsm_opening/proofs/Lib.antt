@@ -6,5 +6,6 @@ pub mod RecoveredFolders
 pub mod Replaced
 pub mod RowFiles
 pub mod RowTables
+pub mod TableNumbers
 pub mod TopTables
 pub mod WholeEdits

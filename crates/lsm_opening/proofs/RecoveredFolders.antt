@@ -1,9 +1,12 @@
 -- An opening of a folder that stands, from what was read to the new log.
-use Rattle.std.specs.Prelude.{◌≡◌, ◌≢◌, ◌⊎◌, ◌↔◌, ℕ, ◌+◌, ◌^◌, ◌<◌, ◌≤◌, true, is_some, List, [], ◌∷◌, ◌++◌, length, take, All, Contains, Option, Some, None, Result, Ok, Err}
+use Rattle.std.specs.Prelude.{◌≡◌, ◌≢◌, ◌⊎◌, ◌↔◌, ℕ, ◌+◌, ◌^◌, ◌<◌, ◌≤◌, Bool, true, false, cond, is_some, List, [], ◌∷◌, ◌++◌, length, take, All, Contains, Option, Some, None, Result, Ok, Err}
 use Rattle.std.proofs.Common.{inr, ⊎_elim, append-nil, refl, sym, ap, subst, ◌∙◌, arith, append_assoc}
 use Rattle.std.specs.FinMap as finmap
 use Rattle.std.specs.List.Sorted.{IsPermutation}
 use Rattle.std.proofs.lemmas.Bool.Decides.{nat_tests}
+use Rattle.std.proofs.lemmas.Cmp.{nat_cmp_total}
+use Rattle.std.specs.Ordering.{nat_cmp, eq_by_cmp}
+use Rattle.lsm_version.proofs.TableMaps.{same_number}
 use Rattle.std.proofs.lemmas.List.Elements.{All-nil, All-cons, All-append, All-weaker, Contains-append_cases, Contains-append_left, Contains-append_right}
 use Rattle.std.proofs.lemmas.List.Sorted.{length_permutation}
 use Rattle.lsm_names.specs.Numbers.{is_file_number}
@@ -69,7 +72,7 @@ use Rattle.lsm_opening.specs.declared.numbers.Numbers.{Numbers}
 use Rattle.lsm_opening.specs.Finding.{HasFound, behind_sync}
 use Rattle.lsm_opening.specs.Edits.{IsWholeEdit}
 use Rattle.lsm_opening.specs.Installing.{HasInstalled, HasGoneOn, IsMadeOf}
-use Rattle.lsm_opening.specs.Numbers.{IsDrawn, tables_of}
+use Rattle.lsm_opening.specs.Numbers.{AreTablesBefore, IsDrawn, tables_of}
 use Rattle.lsm_opening.specs.Recovering.{HasWritten, No_rows, With_table, HasRecoveredFrom, IsSoundRecovered, WroteAtMost}
 use Rattle.lsm_opening.specs.RowTables.{HasRowTable, newest_table}
 use Rattle.lsm_opening.proofs.Installs.{before_any, still_any, apart_any}
@@ -405,6 +408,22 @@ module _ (dir : List ℕ) (told2 told3 told4 : Option Story) (found : Found) (nu
       (All-cons (IsDrawnName (later + 1)) (Table numbers.first) [] (omega (arith, least, drawn.manifest, drawn.log))
       (All-nil (IsDrawnName (later + 1)))))
 
+  -- so are those of the tables
+  tables_before : HasWritten dir found.version found.names found.rows numbers.first told2 told3 v n
+      → AreTablesBefore numbers.log v
+  tables_before (No_rows none same version_so names_so) number is =
+      let less = drawn.tables number (subst (λ (t : Tables). is_some (finmap.get t number) ≡ true) version_so is) in
+      omega (arith, less, drawn.manifest, drawn.log)
+  tables_before (With_table info some has version_so names_so) number is =
+      by (eq_by_cmp nat_cmp number numbers.first) refl
+      (sym (ap is_some (finmap.get-insert nat_cmp_total found.version numbers.first (at_top info) number))
+      ∙ subst (λ (t : Tables). is_some (finmap.get t number) ≡ true) version_so is)
+    where
+      by : (b : Bool) → eq_by_cmp nat_cmp number numbers.first ≡ b
+          → is_some (cond b (Some (at_top info)) (finmap.get found.version number)) ≡ true → number < numbers.log
+      by true same there = omega (arith, same_number number numbers.first same, drawn.manifest, drawn.log)
+      by false other there = omega (arith, drawn.tables number there, drawn.manifest, drawn.log)
+
   pub sound_so : HasWritten dir found.version found.names found.rows numbers.first told2 told3 v n → AreInRange v
       → IsSoundRecovered dir x
   sound_so written range = record {
@@ -423,6 +442,8 @@ module _ (dir : List ℕ) (told2 told3 told4 : Option Story) (found : Found) (nu
         ∙ sym (ap (λ (m : manifest.Shown). path_in dir (Manifest m.number)) go.is.manifest);
     wal_is = ap (λ (l : wal.Shown). l.path) go.is.wal ∙ ap (λ (k : ℕ). path_in dir (Log k)) (sym log_is);
     range = subst AreInRange (sym go.is.version_is) range;
+    below = λ number is. subst (λ (k : ℕ). number < k) (sym log_is) (tables_before written number
+        (subst (λ (t : Tables). is_some (finmap.get t number) ≡ true) go.is.version_is is));
   }
 
 -- what an opening makes of a folder, so far as it has this table, this number of the manifest and this edit

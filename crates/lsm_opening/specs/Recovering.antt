@@ -31,6 +31,7 @@ use Rattle.lsm_refine.specs.WholeEdits.{AreInRange}
 use Rattle.lsm_opening.specs.declared.errors.OpenError.{OpenError}
 use Rattle.lsm_opening.specs.declared.errors.OpenError.TheVariants as error
 use Rattle.lsm_opening.specs.declared.installing.Recovered.{Recovered}
+use Rattle.lsm_opening.specs.Numbers.{AreTablesBefore}
 use Rattle.lsm_opening.specs.RowFiles.{WritesFile}
 use Rattle.lsm_opening.specs.RowTables.{HasRowTable}
 
@@ -119,8 +120,8 @@ pub record HasRecoveredFrom (dir : List ℕ) (mid : Story) (told : Option Story)
   pub gone : HasRecovered (state_of found) (state_of story) dir recovery
   pub is : IsRecoveredBy dir recovery r
 
--- On every disk the numbers and the sequence are in range, all names have drawn numbers, and the manifest and the log are the
--- folder's.
+-- On every disk the numbers and the sequence are in range, all names and tables have drawn numbers, and the manifest and the
+-- log are the folder's.
 pub record IsSoundRecovered (dir : List ℕ) (r : Recovered) : Type 0 where
   pub some : 1 ≤ r.log
   pub most : r.log + 1 < 2 ^ 56
@@ -130,3 +131,4 @@ pub record IsSoundRecovered (dir : List ℕ) (r : Recovered) : Type 0 where
   pub manifest_is : r.manifest.path ≡ path_in dir (Manifest r.manifest.number)
   pub wal_is : r.wal.path ≡ path_in dir (Log r.log)
   pub range : AreInRange r.version
+  pub below : AreTablesBefore r.log r.version

@@ -1,10 +1,12 @@
 //! The file numbers that an opening draws, and how many tables there may be.
 ghost use Rattle.std.specs.Prelude.{◌≡◌, ◌≤◌, [], ◌∷◌, IfOk, IfErr};
-ghost use Rattle.lsm_opening.specs.Numbers.{IsDrawn, IsNotDrawn, tables_of};
+ghost use Rattle.lsm_recover.specs.Stated.{AreSaid};
+ghost use Rattle.lsm_opening.specs.Numbers.{AreTablesBefore, IsBehindOne, IsDrawn, IsNotDrawn, tables_of};
 
 use crate::errors::OpenError;
 use crate::found::Found;
 use lsm_rows::Rows;
+use lsm_version::Version;
 
 // One past the last file number that there is.
 const NUMBER_END: u64 = (1 << 56) - 1;
@@ -29,9 +31,22 @@ fn tables_of(rows: &Rows) -> u32
     if rows.is_empty() { 0 } else { 1 }
 }
 
-// Draws the numbers behind those of all files. It is refused where there would be more tables than
+// The number behind those of all tables, and 1 where there is none.
+fn behind_tables(version: &Version) -> u64
+    requires said { AreSaid version.now }
+    ensures before { AreTablesBefore result version.now }
+    ensures least { IsBehindOne result version.now }
+{
+    match version.tables().last_key_value() {
+        Some((number, _)) => *number + 1,
+        None => 1,
+    }
+}
+
+// Draws the numbers behind those of all files and tables. It is refused where there would be more tables than
 // there may be, and where too few numbers are left.
 pub(crate) fn draw(found: &Found) -> Result<Numbers, OpenError>
+    requires said { AreSaid found.now.version }
     ensures ok { IfOk result (IsDrawn found.now) }
     ensures err { IfErr result (IsNotDrawn found.now) }
 {
@@ -43,7 +58,7 @@ pub(crate) fn draw(found: &Found) -> Result<Numbers, OpenError>
             adding,
         });
     }
-    let first = found.next.max(1);
+    let first = found.next.max(behind_tables(&found.version));
     if first >= NUMBER_END - 1 - adding as u64 {
         return Err(OpenError::NumbersFull { next: NUMBER_END });
     }

@@ -1,7 +1,6 @@
 -- An opening behind its sync of names, whatever was found before it.
-use Rattle.std.specs.Prelude.{◌≡◌, ◌⊎◌, ℕ, ◌<◌, ◌≤◌, Bool, true, false, nat_le, List, Option, Some, option_map, Result, Ok, Err, IfSome}
-use Rattle.std.proofs.Common.{inl, inr, refl, sym, ap, subst, ◌∙◌, arith}
-use Rattle.std.proofs.lemmas.Bool.Decides.{nat_tests}
+use Rattle.std.specs.Prelude.{◌≡◌, ℕ, ◌≤◌, true, List, Option, Some, option_map, Result, Ok, Err, IfSome}
+use Rattle.std.proofs.Common.{refl, sym, ap, subst, ◌∙◌, arith}
 use Rattle.lsm_names.specs.Folders.{is_folder_name}
 use Rattle.lsm_disk.specs.State as disk
 use Rattle.lsm_disk.specs.State.{Seen, Story, Names_synced, after, names_synced, state_of}
@@ -34,13 +33,6 @@ Anything x = Unit {0}
 -- what is so of what is told
 pub told_so : (P : Story → Type 0) (told : Option Story) → IfSome told P → (story : Story) → told ≡ Some story → P story
 told_so P told holds story is = subst (λ (o : Option Story). IfSome o P) is holds
-
-pub either : (m n : ℕ) → (m < n) ⊎ (n ≤ m)
-either m n = by (nat_le n m) refl
-  where
-    by : (b : Bool) → nat_le n m ≡ b → (m < n) ⊎ (n ≤ m)
-    by true is = inr (grind (arith, nat_tests))
-    by false is = inl (grind (arith, nat_tests))
 
 -- where nothing was done, each image is one from before
 pub stays : (dir : List ℕ) (mid : Story) (told : Option Story) → told ≡ Some mid → (start : disk.State)

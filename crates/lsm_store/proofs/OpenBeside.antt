@@ -20,7 +20,8 @@ use Rattle.lsm_store.specs.declared.opening.Begun.{Begun}
 use Rattle.lsm_store.specs.declared.opening_new.NewParts.{NewParts}
 use Rattle.lsm_store.proofs.NewImages.{beside_keeps}
 use Rattle.lsm_store.proofs.NewStores.{beside_is_new, site_vacant}
-use Rattle.lsm_store.proofs.OpenBegins.{behind_found, behind_kept, either, told_so, unwritten}
+use Rattle.lsm_opening.proofs.TableNumbers.{either}
+use Rattle.lsm_store.proofs.OpenBegins.{behind_found, behind_kept, told_so, unwritten}
 use Rattle.lsm_store.proofs.OpenCauses.{new_cause, opened_since}
 use Rattle.lsm_store.proofs.OpenNew.{same_story, begun_is, begun_sound, files_inside, folders_read, fresh_unwritten, new_leads}
 

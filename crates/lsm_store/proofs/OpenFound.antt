@@ -1,5 +1,5 @@
 -- An opening of a folder that stands, or of one that can't be a store's.
-use Rattle.std.specs.Prelude.{◌≡◌, ℕ, ◌+◌, ◌^◌, ◌<◌, ◌≤◌, true, List, length, All, Some, None, Ok, Err, IfSome}
+use Rattle.std.specs.Prelude.{◌≡◌, ℕ, ◌+◌, ◌^◌, ◌<◌, ◌≤◌, true, is_some, List, length, All, Some, None, Ok, Err, IfSome}
 use Rattle.std.proofs.Common.{sym, ap, subst, ◌∙◌}
 use Rattle.std.specs.FinMap as finmap
 use Rattle.std.specs.Ordering.{nat_cmp}
@@ -27,6 +27,7 @@ use Rattle.lsm_refine.specs.Grown.{IsDrawn}
 use Rattle.lsm_refine.specs.OpeningImages.{KeepsFolder}
 use Rattle.lsm_refine.specs.Openings.{HasOnlyFiles, IsFound, IsKeptImage, OpensTo}
 use Rattle.lsm_refine.specs.WholeEdits.{AreInRange}
+use Rattle.lsm_version.specs.Levels.{Tables}
 use Rattle.lsm_refine.proofs.OpeningBegins.{file_found}
 use Rattle.lsm_refine.proofs.TableSyncs.{files_image}
 use Rattle.lsm_refine.proofs.RecoveredOpenings.{recovered_opens}
@@ -83,6 +84,8 @@ begun_by_sound dir r b by sound = record {
       ∙ sym (ap (λ (x : manifest.Shown). path_in dir (Manifest x.number)) by.manifest);
   wal_is = ap (λ (x : wal.Shown). x.path) by.wal ∙ sound.wal_is ∙ sym (ap (λ (n : ℕ). path_in dir (Log n)) by.log);
   range = subst AreInRange (sym by.version) sound.range;
+  below = λ number is. subst (λ (n : ℕ). number < n) (sym by.log)
+      (sound.below number (subst (λ (t : Tables). is_some (finmap.get t number) ≡ true) by.version is));
 }
 
 module _ (dir : List ℕ) (named : is_folder_name dir ≡ true) (short : length dir + 30 ≤ 160) (old at new : Seen)

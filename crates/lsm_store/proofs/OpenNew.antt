@@ -1,5 +1,5 @@
 -- An opening that made a new store: the store is good for whatever was found, and nothing was lost.
-use Rattle.std.specs.Prelude.{◌≡◌, ℕ, ◌+◌, ◌≤◌, true, List, [], ◌∷◌, length, All, Some, None, Result, Ok, Err, IfSome}
+use Rattle.std.specs.Prelude.{◌≡◌, ℕ, ◌+◌, ◌≤◌, true, false, is_some, List, [], ◌∷◌, length, All, Some, None, Result, Ok, Err, IfSome}
 use Rattle.std.proofs.Common.{sym, ap, subst, ◌∙◌, arith}
 use Rattle.std.proofs.lemmas.List.Elements.{All-nil}
 use Rattle.std.specs.FinMap as finmap
@@ -91,6 +91,9 @@ module _ (dir : List ℕ) (m : ℕ) (beside : List FileName) (parts : NewParts) 
             ∙ sym (ap (λ (x : manifest.Shown). path_in dir (Manifest x.number)) is.files.manifest);
         wal_is = ap (λ (x : wal.Shown). x.path) is.files.wal;
         range = record { each = λ number placed is. no_table number placed is };
+        below = λ number is.
+            let clash : false ≡ true = sym (ap is_some (finmap.get-empty nat_cmp number)) ∙ is in
+            absurd (cc);
       }
 
 -- ---- the other folders

@@ -16,6 +16,7 @@ use Rattle.lsm_recover.specs.declared.errors.FolderError.TheVariants as folder
 use Rattle.lsm_opening.specs.declared.errors.OpenError.{OpenError}
 use Rattle.lsm_opening.specs.declared.errors.OpenError.TheVariants as opening
 use Rattle.lsm_opening.specs.declared.installing.Recovered.{Recovered}
+use Rattle.lsm_opening.specs.Numbers.{AreTablesBefore}
 use Rattle.lsm_model.specs.declared.errors.StoreError.{StoreError}
 use Rattle.lsm_model.specs.declared.errors.StoreError.TheVariants as error
 use Rattle.lsm_model.specs.declared.states.State.{State}
@@ -55,7 +56,8 @@ begun_inner seen dir b = record {
 abbrev pub begun_store : Seen → List ℕ → Begun → Shown
 begun_store seen dir b = shown_of (begun_inner seen dir b)
 
--- numbers, tables and the sequence are in range, the names have drawn numbers, and the manifest and the log are the folder's
+-- numbers, tables and the sequence are in range, names and tables have drawn numbers, and the manifest and the log are the
+-- folder's
 pub record IsSoundBegun (dir : List ℕ) (b : Begun) : Type 0 where
   pub some : 1 ≤ b.log
   pub most : b.log + 1 < 2 ^ 56
@@ -65,6 +67,7 @@ pub record IsSoundBegun (dir : List ℕ) (b : Begun) : Type 0 where
   pub manifest_is : b.manifest.path ≡ path_in dir (Manifest b.manifest.number)
   pub wal_is : b.wal.path ≡ path_in dir (Log b.log)
   pub range : AreInRange b.version
+  pub below : AreTablesBefore b.log b.version
 
 -- what a new store begins with, whose manifest has this number
 abbrev pub new_begun : NewParts → ℕ → Begun

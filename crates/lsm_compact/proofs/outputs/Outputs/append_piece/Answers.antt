@@ -1,9 +1,9 @@
-use Rattle.std.proofs.Common.{refl, sym, ap, subst, List, ℕ, ◌++◌, ◌∷◌, [], Some, None}
+use Rattle.std.proofs.Common.{refl, sym, subst, List, ℕ, ◌++◌, ◌∷◌, [], Some, None}
 use Rattle.lsm_compact.specs.declared.outputs.Stage.{Stage}
 use Rattle.lsm_compact.specs.declared.outputs.Stage.TheVariants.{Open}
 use Rattle.lsm_compact.specs.Calls.{Appended}
-use Rattle.lsm_compact.specs.Writing.{Goes, open_rows}
-use Rattle.lsm_compact.proofs.Stages.{not_open_piece, same_rows}
+use Rattle.lsm_compact.specs.Writing.{Goes}
+use Rattle.lsm_compact.proofs.Stages.{not_open_piece, same_stage, same_table}
 use Rattle.lsm_compact.proofs.Ports.{unmoved}
 use Rattle.lsm_compact.proofs.Writes.{no_call, piece_ok, append_err}
 use Rattle.lsm_compact.proofs.outputs.Outputs.append_piece.Goals as goal
@@ -36,7 +36,7 @@ returns-in_default g c = record {
   goes = λ over start calls written led w. no_call g.P.TablePort.went start calls c.args.port.now over c.args.self.now
       written led w;
   piece = not_open_piece c.args.self.now.stage c.in_default.not-Open;
-  rows = same_rows c.args.self.now.stage c.args.self.now.stage refl;
+  rows = same_stage c.args.self.now.stage;
   sound = λ over s. s;
   port = unmoved g.P.TablePort.told g.P.TablePort.faults c.args.port.now;
   level = refl;
@@ -44,14 +44,16 @@ returns-in_default g c = record {
 
 pub returns-in-Ok-clause-rows : goal.returns-in-Ok-clause-rows
 returns-in-Ok-clause-rows g c =
-    same_rows c.args.self.now.stage (Open c.in-Open.table c.new.result c.in-Open.ended) (ap open_rows (sym c.in-Open.is))
+    same_table c.args.self.now.stage c.in-Open.table c.in-Open.table c.in-Open.piece c.new.result c.in-Open.ended
+    c.in-Open.ended c.in-Open.is refl
 
 pub returns-in-Err-clause-rows : goal.returns-in-Err-clause-rows
 returns-in-Err-clause-rows g c =
-    same_rows c.args.self.now.stage (Open c.in-Open.table c.in-Open.piece c.in-Open.ended) (ap open_rows (sym c.in-Open.is))
+    same_table c.args.self.now.stage c.in-Open.table c.in-Open.table c.in-Open.piece c.in-Open.piece c.in-Open.ended
+    c.in-Open.ended c.in-Open.is refl
 
 pub returns-then-not-has_piece-clause-piece : goal.returns-then-not-has_piece-clause-piece
 returns-then-not-has_piece-clause-piece g c = c.has_piece.ensures c.if-not-has_piece.true
 
 pub returns-then-not-has_piece-clause-rows : goal.returns-then-not-has_piece-clause-rows
-returns-then-not-has_piece-clause-rows g c = same_rows c.args.self.now.stage c.args.self.now.stage refl
+returns-then-not-has_piece-clause-rows g c = same_stage c.args.self.now.stage

@@ -1,7 +1,7 @@
 use Rattle.std.proofs.Common.{refl, sym, ap, subst, ◌∙◌, None, [], true, false}
 use Rattle.lsm_compact.specs.declared.outputs.Stage.{Stage}
 use Rattle.lsm_compact.specs.Writing.{Goes, IsBegun, IsSound, open_rows}
-use Rattle.lsm_compact.proofs.Stages.{same_rows, new_grown, new_open, not_closed_begun}
+use Rattle.lsm_compact.proofs.Stages.{new_grown, new_open, not_closed_begun}
 use Rattle.lsm_compact.proofs.Ports.{unmoved}
 use Rattle.lsm_compact.proofs.Writes.{no_call, create_ok, create_err}
 use Rattle.lsm_compact.proofs.outputs.Outputs.begin.Goals as goal
@@ -25,7 +25,7 @@ returns-in_default g c = record {
   goes = λ start calls written led w. no_call g.P.TablePort.went start calls c.args.port.now false c.args.self.now written
       led w;
   begun = not_closed_begun c.args.self.now.stage c.in_default.not-Closed;
-  rows = same_rows c.args.self.now.stage c.args.self.now.stage refl;
+  rows = refl;
   sound = λ over s. s;
   port = unmoved g.P.TablePort.told g.P.TablePort.faults c.args.port.now;
   level = refl;
@@ -36,12 +36,8 @@ returns-in-Ok-clause-begun g c = λ _. subst IsBegun (sym c.open_stage.ensures) 
 
 pub returns-in-Ok-clause-rows : goal.returns-in-Ok-clause-rows
 returns-in-Ok-clause-rows g c =
-    same_rows c.args.self.now.stage c.open_stage.result
-    (ap open_rows c.open_stage.ensures ∙ ap open_rows (sym c.in-Closed.is))
+    ap open_rows c.open_stage.ensures ∙ ap open_rows (sym c.in-Closed.is)
 
 pub returns-in-Ok-clause-sound : goal.returns-in-Ok-clause-sound
 returns-in-Ok-clause-sound g c = λ over s.
     subst (IsSound over) (sym c.open_stage.ensures) (new_grown over c.in-Ok.drawn.0 c.in-Ok.drawn.1)
-
-pub returns-in-Err-clause-rows : goal.returns-in-Err-clause-rows
-returns-in-Err-clause-rows g c = same_rows c.args.self.now.stage c.args.self.now.stage refl

@@ -1,5 +1,4 @@
-use Rattle.std.proofs.Common.{refl}
-use Rattle.lsm_compact.proofs.Stages.{can_end, may_end, same_rows}
+use Rattle.lsm_compact.proofs.Stages.{can_end, may_end, same_stage}
 use Rattle.lsm_compact.proofs.Writes.{no_call}
 use Rattle.lsm_compact.proofs.outputs.Outputs.end_full.Goals as goal
 
@@ -8,7 +7,7 @@ returns-then-not-is_to_end-clause-goes g c = λ over start calls written led w.
     no_call g.P.TablePort.went start calls c.args.port.now over c.args.self.now written led w
 
 pub returns-then-not-is_to_end-clause-rows : goal.returns-then-not-is_to_end-clause-rows
-returns-then-not-is_to_end-clause-rows g c = same_rows c.args.self.now.stage c.args.self.now.stage refl
+returns-then-not-is_to_end-clause-rows g c = same_stage c.args.self.now.stage
 
 pub close-requires : goal.close-requires
 close-requires g c = can_end c.args.self.now.stage (c.is_to_end.ensures.yes c.if-not-is_to_end.false) c.requires.piece

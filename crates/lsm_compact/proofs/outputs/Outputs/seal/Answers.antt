@@ -1,7 +1,6 @@
-use Rattle.std.proofs.Common.{refl, sym, ap}
+use Rattle.std.proofs.Common.{refl}
 use Rattle.lsm_compact.specs.declared.outputs.Stage.TheVariants.{Closed}
-use Rattle.lsm_compact.specs.Writing.{open_rows}
-use Rattle.lsm_compact.proofs.Stages.{same_rows}
+use Rattle.lsm_compact.proofs.Stages.{none_now, same_stage}
 use Rattle.lsm_compact.proofs.Ports.{unmoved}
 use Rattle.lsm_compact.proofs.Writes.{no_call, not_sealing, seal_ok, seal_err}
 use Rattle.lsm_compact.proofs.outputs.Outputs.seal.Goals as goal
@@ -21,14 +20,14 @@ returns-in_default g c = record {
   goes = λ over start calls written led w. no_call g.P.TablePort.went start calls c.args.port.now over c.args.self.now
       written led w;
   closed = not_sealing c.args.self.now.stage c.in_default.not-Sealing;
-  rows = same_rows c.args.self.now.stage c.args.self.now.stage refl;
+  rows = same_stage c.args.self.now.stage;
   sound = λ over s. s;
   port = unmoved g.P.TablePort.told g.P.TablePort.faults c.args.port.now;
   level = refl;
 }
 
 pub returns-in-Ok-clause-rows : goal.returns-in-Ok-clause-rows
-returns-in-Ok-clause-rows g c = same_rows c.args.self.now.stage Closed (ap open_rows (sym c.in-Sealing.is))
+returns-in-Ok-clause-rows g c = none_now c.args.self.now.stage Closed refl tt
 
 pub returns-in-Err-clause-rows : goal.returns-in-Err-clause-rows
-returns-in-Err-clause-rows g c = same_rows c.args.self.now.stage c.args.self.now.stage refl
+returns-in-Err-clause-rows g c = same_stage c.args.self.now.stage
