@@ -15,8 +15,10 @@ use Rattle.lsm_compact.specs.declared.port.PortFault.{PortFault}
 use Rattle.lsm_compact.specs.declared.reader.Reader.{Reader}
 use Rattle.lsm_compact.specs.Calls.{Called, Files, files_after}
 use Rattle.lsm_compact.specs.Compacting.{HasAdded, HasEnded, HasMoved, HaveCome, IsUsedUp, done_in, is_bare, written_of}
+use Rattle.lsm_compact.specs.Given.{GivesMore}
 use Rattle.lsm_compact.specs.Readers.{IsAtEnd, IsGivenRow, IsLater}
 use Rattle.lsm_compact.specs.Writing.{Goes, IsWhole, IsWriting, fault_in}
+use Rattle.lsm_compact.proofs.Given.{gives_none, gives_then}
 use Rattle.lsm_compact.proofs.Keys.{untrue}
 use Rattle.lsm_compact.proofs.Readers.{later_itself, later_then}
 use Rattle.lsm_compact.proofs.Writes.{all_joined, and_then, no_call, taken_of}
@@ -83,14 +85,16 @@ rows_then xs ys come came a b c first second =
     append_assoc xs ys c ∙ ap (λ (l : List Row). xs ++ l) second ∙ sym (append_assoc xs b came)
     ∙ ap (λ (l : List Row). l ++ came) first ∙ append_assoc a come came
 
-module _ {P : Type 0} (went : P → List Called → P → Type 0) where
+module _ {P : Type 0} (went : P → List Called → P → Type 0) (told : P → Option (ℕ → List Row)) where
   pub moved_then : (first middle last : P) (a b c : Compaction) (fault : Option PortFault) (m n count : ℕ) → m + n ≡ count
-      → HasMoved went first middle a b None m
-      → HasMoved went middle last b c fault n → HasMoved went first last a c fault count
+      → HasMoved went told first middle a b None m
+      → HasMoved went told middle last b c fault n → HasMoved went told first last a c fault count
   moved_then first middle last a b c fault m n count sum one two = record {
     come = one.come ++ two.come;
     more = one.more ++ two.more;
     given = come_then a.reader.merge b.reader.merge c.reader.merge one.come two.come one.given two.given;
+    contents = gives_then (told first) (told middle) (told last) a.reader b.reader c.reader one.come two.come one.contents
+        two.contents;
     rows = rows_then one.more two.more one.come two.come (option_to_list a.kept) (option_to_list b.kept)
         (option_to_list c.kept) one.rows two.rows;
     count_is = length-append one.more two.more ∙ ap (λ (k : ℕ). k + length two.more) one.count_is
@@ -115,15 +119,16 @@ module _ {P : Type 0} (went : P → List Called → P → Type 0) where
   -- nothing was moved
   module _ (before now : P) (c : Compaction) (fault : Option PortFault) where
     -- a call has changed the outputs, and no row of theirs
-    pub outputs_moved : (o : Outputs) → o.level ≡ c.outputs.level
+    pub outputs_moved : told now ≡ told before → (o : Outputs) → o.level ≡ c.outputs.level
         → ((over : Bool) (start : P) (calls : List Called) (written : List Row) → (over ≡ true → IsUsedUp c)
         → went start calls before → IsWriting over c.outputs (files_after calls) written
         → (next : Bool) × (next ≡ true → IsUsedUp c) × Goes went start calls now next o written fault)
-        → HasMoved went before now c (record c { outputs = o }) fault 0
-    outputs_moved o level goes = record {
+        → HasMoved went told before now c (record c { outputs = o }) fault 0
+    outputs_moved tells o level goes = record {
       come = [];
       more = [];
       given = none_came c.reader.merge c.reader.merge (later_itself c.reader.merge);
+      contents = gives_none (told before) (told now) c.reader tells;
       rows = sym (append-nil (option_to_list c.kept));
       count_is = refl;
       inputs_are = refl;
@@ -139,14 +144,15 @@ module _ {P : Type 0} (went : P → List Called → P → Type 0) where
     }
 
     -- a call of the reader gave no row
-    pub reader_moved : (r : Reader) → IsLater c.reader.merge r.merge
+    pub reader_moved : (r : Reader) → IsLater c.reader.merge r.merge → GivesMore (told before) c.reader (told now) r []
         → ((over : Bool) (start : P) (calls : List Called) (o : Outputs) (written : List Row) → went start calls before
         → IsWriting over o (files_after calls) written → Goes went start calls now over o written fault)
-        → HasMoved went before now c (record c { reader = r }) fault 0
-    reader_moved r later goes = record {
+        → HasMoved went told before now c (record c { reader = r }) fault 0
+    reader_moved r later contents goes = record {
       come = [];
       more = [];
       given = none_came c.reader.merge r.merge later;
+      contents = contents;
       rows = sym (append-nil (option_to_list c.kept));
       count_is = refl;
       inputs_are = refl;
@@ -162,13 +168,15 @@ module _ {P : Type 0} (went : P → List Called → P → Type 0) where
 
     -- a call of the reader gave a row, where none was kept
     pub row_moved : (r : Reader) (row : Row) → c.kept ≡ None → IsGivenRow c.reader.merge row r.merge
+        → GivesMore (told before) c.reader (told now) r (row ∷ [])
         → ((over : Bool) (start : P) (calls : List Called) (o : Outputs) (written : List Row) → went start calls before
         → IsWriting over o (files_after calls) written → Goes went start calls now over o written fault)
-        → HasMoved went before now c (record c { reader = r; kept = Some row }) fault 0
-    row_moved r row none given goes = record {
+        → HasMoved went told before now c (record c { reader = r; kept = Some row }) fault 0
+    row_moved r row none given contents goes = record {
       come = row ∷ [];
       more = [];
       given = one_came c.reader.merge r.merge row given;
+      contents = contents;
       rows = ap (λ (o : Option Row). option_to_list o ++ row ∷ []) (sym none);
       count_is = refl;
       inputs_are = refl;
@@ -183,8 +191,8 @@ module _ {P : Type 0} (went : P → List Called → P → Type 0) where
     }
 
   -- nothing was called and nothing is changed
-  pub still : (port : P) (c : Compaction) → HasMoved went port port c c None 0
-  still port c = outputs_moved port port c None c.outputs refl
+  pub still : (port : P) (c : Compaction) → HasMoved went told port port c c None 0
+  still port c = outputs_moved port port c None refl c.outputs refl
       (λ over start calls written end led w. (over, end, no_call went start calls port over c.outputs written led w))
 
   kept_end : (c : Compaction) (row : Row) → c.kept ≡ Some row → (over : Bool) → (over ≡ true → IsUsedUp c) → over ≡ false
@@ -196,11 +204,12 @@ module _ {P : Type 0} (went : P → List Called → P → Type 0) where
 
   -- the kept row was left out
   pub left_out : (port : P) (c : Compaction) (row : Row) → c.kept ≡ Some row → is_bare c.deeper row ≡ true
-      → HasMoved went port port c (record c { kept = None }) None 1
+      → HasMoved went told port port c (record c { kept = None }) None 1
   left_out port c row some bare = record {
     come = [];
     more = row ∷ [];
     given = none_came c.reader.merge c.reader.merge (later_itself c.reader.merge);
+    contents = gives_none (told port) (told port) c.reader refl;
     rows = kept_rows c row some;
     count_is = refl;
     inputs_are = refl;
@@ -219,11 +228,12 @@ module _ {P : Type 0} (went : P → List Called → P → Type 0) where
 
   -- the kept row was written
   pub row_written : (port : P) (c : Compaction) (o : Outputs) (row : Row) → c.kept ≡ Some row → is_bare c.deeper row ≡ false
-      → HasAdded c.outputs o row → HasMoved went port port c (record c { kept = None; outputs = o }) None 1
+      → HasAdded c.outputs o row → HasMoved went told port port c (record c { kept = None; outputs = o }) None 1
   row_written port c o row some full added = record {
     come = [];
     more = row ∷ [];
     given = none_came c.reader.merge c.reader.merge (later_itself c.reader.merge);
+    contents = gives_none (told port) (told port) c.reader refl;
     rows = kept_rows c row some;
     count_is = refl;
     inputs_are = refl;
@@ -243,17 +253,18 @@ module _ {P : Type 0} (went : P → List Called → P → Type 0) where
   }
 
   -- the outputs were closed, and their adds taken
-  pub ended : (before now : P) (c : Compaction) (o last : Outputs) (edit : Edit) → IsUsedUp c
+  pub ended : (before now : P) (c : Compaction) (o last : Outputs) (edit : Edit) → told now ≡ told before → IsUsedUp c
       → o.level ≡ c.outputs.level → o.stage ≡ Closed → edit.drops ≡ c.inputs → edit.log ≡ None → edit.next ≡ None
       → edit.last ≡ None
       → ((over : Bool) (start : P) (calls : List Called) (written : List Row) → went start calls before
       → IsWriting over c.outputs (files_after calls) written → Goes went start calls now true o written None)
       → ((files : Files) (written : List Row) → IsWriting true o files written → o.stage ≡ Closed
       → IsWhole o.level edit.adds files written)
-      → HasEnded went before now c (record c { outputs = last }) edit 0
-  ended before now c o last edit used level closed drops log next last_is goes whole = record {
+      → HasEnded went told before now c (record c { outputs = last }) edit 0
+  ended before now c o last edit tells used level closed drops log next last_is goes whole = record {
     come = [];
     given = none_came c.reader.merge c.reader.merge (later_itself c.reader.merge);
+    contents = gives_none (told before) (told now) c.reader tells;
     count_is = ap (λ (k : Option Row). length (option_to_list k ++ [])) used.0;
     end = used.1;
     drops_are = drops;
@@ -276,20 +287,21 @@ module _ {P : Type 0} (went : P → List Called → P → Type 0) where
   -- ---- calls together
 
   -- the outputs are changed by a call that any stage allows
-  pub any_moved : (before now : P) (c : Compaction) (fault : Option PortFault) (o : Outputs) → o.level ≡ c.outputs.level
+  pub any_moved : (before now : P) (c : Compaction) (fault : Option PortFault) → told now ≡ told before → (o : Outputs)
+      → o.level ≡ c.outputs.level
       → ((over : Bool) (start : P) (calls : List Called) (written : List Row) → went start calls before
       → IsWriting over c.outputs (files_after calls) written → Goes went start calls now over o written fault)
-      → HasMoved went before now c (record c { outputs = o }) fault 0
-  any_moved before now c fault o level goes = outputs_moved before now c fault o level
+      → HasMoved went told before now c (record c { outputs = o }) fault 0
+  any_moved before now c fault tells o level goes = outputs_moved before now c fault tells o level
       (λ over start calls written end led w. (over, end, goes over start calls written led w))
 
   -- they are changed while a row is kept
-  pub begun_moved : (before now : P) (c : Compaction) (fault : Option PortFault) (o : Outputs) (row : Row)
-      → c.kept ≡ Some row → o.level ≡ c.outputs.level
+  pub begun_moved : (before now : P) (c : Compaction) (fault : Option PortFault) → told now ≡ told before → (o : Outputs)
+      (row : Row) → c.kept ≡ Some row → o.level ≡ c.outputs.level
       → ((start : P) (calls : List Called) (written : List Row) → went start calls before
       → IsWriting false c.outputs (files_after calls) written → Goes went start calls now false o written fault)
-      → HasMoved went before now c (record c { outputs = o }) fault 0
-  begun_moved before now c fault o row kept level goes = outputs_moved before now c fault o level
+      → HasMoved went told before now c (record c { outputs = o }) fault 0
+  begun_moved before now c fault tells o row kept level goes = outputs_moved before now c fault tells o level
       (λ over start calls written end led w. (
         false,
         (λ is. absurd (untrue is)),
@@ -298,42 +310,45 @@ module _ {P : Type 0} (went : P → List Called → P → Type 0) where
       ))
 
   -- they are closed, where no row is to come
-  pub closed_moved : (before now : P) (c : Compaction) (fault : Option PortFault) (o : Outputs) → IsUsedUp c
+  pub closed_moved : (before now : P) (c : Compaction) (fault : Option PortFault) → told now ≡ told before → (o : Outputs)
+      → IsUsedUp c
       → o.level ≡ c.outputs.level
       → ((over : Bool) (start : P) (calls : List Called) (written : List Row) → went start calls before
       → IsWriting over c.outputs (files_after calls) written → Goes went start calls now true o written fault)
-      → HasMoved went before now c (record c { outputs = o }) fault 0
-  closed_moved before now c fault o used level goes = outputs_moved before now c fault o level
+      → HasMoved went told before now c (record c { outputs = o }) fault 0
+  closed_moved before now c fault tells o used level goes = outputs_moved before now c fault tells o level
       (λ over start calls written end led w. (true, (λ _. used), goes over start calls written led w))
 
   -- a fault is handed on
   pub moved_refused : (A B : Type 0) (before now : P) (a b : Compaction) (fault : CompactFault) (count : ℕ)
-      → HasMoved went before now a b (fault_in {T = A} (Err fault)) count
-      → HasMoved went before now a b (fault_in {T = B} (Err fault)) count
+      → HasMoved went told before now a b (fault_in {T = A} (Err fault)) count
+      → HasMoved went told before now a b (fault_in {T = B} (Err fault)) count
   moved_refused A B before now a b (Port fault) count moved = moved
   moved_refused A B before now a b NoMemory count moved = moved
 
   -- a table is begun, if none is open, and the kept row is written, or stays kept
   pub kept_moved : (before now : P) (a b c : Compaction) (row : Row) (result : Result (Unit {0}) CompactFault)
-      → HasMoved went before now a b None 0 → b.kept ≡ Some row → is_bare b.deeper row ≡ false
+      → HasMoved went told before now a b None 0 → b.kept ≡ Some row → is_bare b.deeper row ≡ false
       → OnOk result ((r : Row) → b.kept ≡ Some r → HasAdded b.outputs c.outputs r)
       → OnOk result (c ≡ record b { kept = None; outputs = c.outputs }) → OnErr result (c ≡ b) → fault_in result ≡ None
-      → HasMoved went before now a c (fault_in result) (done_in result)
+      → HasMoved went told before now a c (fault_in result) (done_in result)
   kept_moved before now a b c row (Ok done) moved kept full added ok err none = moved_then before now now a b c None 0 1 1 refl
       moved
-      (subst (λ (n : Compaction). HasMoved went now now b n None 1) (sym ok)
+      (subst (λ (n : Compaction). HasMoved went told now now b n None 1) (sym ok)
       (row_written now b c.outputs row kept full (added row kept)))
   kept_moved before now a b c row (Err fault) moved kept full added ok err none =
-      subst (λ (f : Option PortFault). HasMoved went before now a c f 0) (sym none)
-      (subst (λ (n : Compaction). HasMoved went before now a n None 0) (sym err) moved)
+      subst (λ (f : Option PortFault). HasMoved went told before now a c f 0) (sym none)
+      (subst (λ (n : Compaction). HasMoved went told before now a n None 0) (sym err) moved)
 
   -- a compaction that was moved on comes to its end
   pub moved_end : (first middle last : P) (a b c : Compaction) (edit : Edit) (m n count : ℕ) → m + n ≡ count
-      → HasMoved went first middle a b None m
-      → HasEnded went middle last b c edit n → HasEnded went first last a c edit count
+      → HasMoved went told first middle a b None m
+      → HasEnded went told middle last b c edit n → HasEnded went told first last a c edit count
   moved_end first middle last a b c edit m n count sum one two = record {
     come = one.come ++ two.come;
     given = come_then a.reader.merge b.reader.merge c.reader.merge one.come two.come one.given two.given;
+    contents = gives_then (told first) (told middle) (told last) a.reader b.reader c.reader one.come two.come one.contents
+        two.contents;
     count_is = ap (length {A = Row}) all_rows ∙ length-append one.more (option_to_list b.kept ++ two.come)
         ∙ ap (λ (k : ℕ). k + length (option_to_list b.kept ++ two.come)) one.count_is
         ∙ ap (λ (k : ℕ). m + k) two.count_is ∙ sum;

@@ -1,7 +1,9 @@
 pub mod Applying
 pub mod Ascending
 pub mod Compacts
+pub mod Courses
 pub mod Drafts
+pub mod Given
 pub mod Growing
 pub mod Inputs
 pub mod Keeping
@@ -18,6 +20,7 @@ pub mod RangeLemmas
 pub mod Readers
 pub mod RowWeights
 pub mod RunOrder
+pub mod RunsOn
 pub mod Stages
 pub mod UnderWay
 pub mod WholeOutputs

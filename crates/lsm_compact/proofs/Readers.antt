@@ -1,5 +1,5 @@
 -- The inputs of a compaction as they are read: what a call of the merge leaves, and what a run leaves that was read.
-use Rattle.std.specs.Prelude.{◌≡◌, ◌⊎◌, ℕ, zero, suc, ◌^◌, ◌<◌, get_or, List, [], ◌∷◌, length, Contains, slice_get, slice_set, Option, Some, None, MatchOption, IfSome, IfNone}
+use Rattle.std.specs.Prelude.{◌≡◌, ◌⊎◌, ℕ, zero, suc, false, ◌^◌, ◌<◌, get_or, List, [], ◌∷◌, length, Contains, slice_get, slice_set, Option, Some, None, MatchOption, IfSome, IfNone}
 use Rattle.std.proofs.Common.{refl, sym, ap, subst, inl, inr, ⊎_elim, ◌∙◌, arith}
 use Rattle.std.proofs.lemmas.Bool.{false≢true}
 use Rattle.std.proofs.lemmas.List.{length-set}
@@ -26,10 +26,10 @@ use Rattle.lsm_compact.specs.declared.input.Reading.{Reading}
 use Rattle.lsm_compact.specs.declared.input.Unfilled.{Unfilled}
 use Rattle.lsm_compact.specs.Calls.{IsRowOfStore, IsRun}
 use Rattle.lsm_compact.specs.Reading.{left_rows, is_ended, fault_of, read_to}
-use Rattle.lsm_compact.specs.Readers.{HasRead, AreSound, IsPast, IsAtEnd, IsLater, IsGivenRow, IsWanting}
+use Rattle.lsm_compact.specs.Readers.{HasRead, AreSound, IsPast, IsAtEnd, IsLater, IsFilled, IsGivenRow, IsWanting}
 use Rattle.lsm_compact.proofs.RunOrder.{run_sorted, run_from, read_on, run_read}
 
-some_at : {X : Type 0} (xs : List X) (i : ℕ) → i < length xs → (x : X) × (slice_get xs i ≡ Some x)
+pub some_at : {X : Type 0} (xs : List X) (i : ℕ) → i < length xs → (x : X) × (slice_get xs i ≡ Some x)
 some_at [] i within = absurd (omega (arith, within))
 some_at (x ∷ xs) zero within = (x, refl)
 some_at (x ∷ xs) (suc i) within = some_at xs i (omega (arith, within))
@@ -139,7 +139,7 @@ left_cases m place source row is = ⊎_elim (λ found. inl (inl found))
     (λ left. ⊎_elim (λ same. inr (subst (λ (s : Input). Contains (left_rows s) row) same.1 left.3))
     (λ was. inl (inr (inr (left.0, left.1, was, left.3)))) (set_cases m.sources place source left.0 left.1 left.2)) rest) is
 
-held_left : (m : Merging Input) (head : Head) → Contains m.heads head → IsLeft left_rows m head.row
+pub held_left : (m : Merging Input) (head : Head) → Contains m.heads head → IsLeft left_rows m head.row
 unfolding IsLeft IsHeld
 held_left m head has = inr (inl (head, has, refl))
 
@@ -216,6 +216,15 @@ module _ (readings : List Reading) (m : Merging Input) (place count : ℕ) (run 
     end = λ ended. absurd (false≢true (ended.ends place (Wanting wanting.why) wanting.source_is));
   }
 
+-- an input that answers no fault is filled
+pub now_filled : (m : Merging Input) (place : ℕ) (source : Input) → IsWanting m place → fault_of source ≡ None
+    → IsFilled (with_source m place source) place
+now_filled m place source was none now =
+    let same : source ≡ Wanting now.why = some_same source (Wanting now.why)
+    (sym (set_here m.sources place (Wanting was.why) source was.source_is) ∙ now.source_is) in
+    let fault : None ≡ Some now.why = sym none ∙ ap fault_of same in
+    absurd (let clash : ⊥ = cc in clash)
+
 -- ---- nothing was read yet
 
 -- what is read of a list
@@ -224,17 +233,23 @@ got [] i x within is = absurd (omega (arith, within))
 got (y ∷ xs) zero x within is = ap Some (sym is)
 got (y ∷ xs) (suc i) x within is = got xs i x (omega (arith, within)) is
 
--- the inputs have no rows
+-- the inputs have no rows, and aren't at their end
 abbrev pub AreFresh : List Input → Type 0
-AreFresh sources = AllByRecursion (λ (source : Input). left_rows source ≡ []) sources
+AreFresh sources = AllByRecursion (λ (source : Input). (left_rows source ≡ []) × (is_ended source ≡ false)) sources
 
 fresh_at : (sources : List Input) → AreFresh sources → (place : ℕ) (source : Input) → slice_get sources place ≡ Some source
     → left_rows source ≡ []
 fresh_at [] fresh place source is = absurd (let clash : ⊥ = cc in clash)
-fresh_at (first ∷ sources) fresh zero source is = ap left_rows (sym (some_same first source is)) ∙ fresh.0
+fresh_at (first ∷ sources) fresh zero source is = ap left_rows (sym (some_same first source is)) ∙ fresh.0.0
 fresh_at (first ∷ sources) fresh (suc place) source is = fresh_at sources fresh.1 place source is
 
-none_left : (sources : List Input) → AreFresh sources → (row : Row)
+pub fresh_open : (sources : List Input) → AreFresh sources → (place : ℕ) (source : Input)
+    → slice_get sources place ≡ Some source → is_ended source ≡ false
+fresh_open [] fresh place source is = absurd (let clash : ⊥ = cc in clash)
+fresh_open (first ∷ sources) fresh zero source is = ap is_ended (sym (some_same first source is)) ∙ fresh.0.1
+fresh_open (first ∷ sources) fresh (suc place) source is = fresh_open sources fresh.1 place source is
+
+pub none_left : (sources : List Input) → AreFresh sources → (row : Row)
     → IsLeft left_rows (record { found = None; heads = []; asked = 0; sources = sources }) row → ⊥
 unfolding IsLeft IsHeld IsInSource
 none_left sources fresh row is = ⊎_elim (λ found. absurd (let clash : ⊥ = cc in clash))

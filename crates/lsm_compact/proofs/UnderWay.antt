@@ -10,6 +10,7 @@ use Rattle.std.specs.declared.cmp.Ordering.TheVariants.{Less}
 use Rattle.lsm_rows.specs.declared.rows.Row.{Row}
 use Rattle.lsm_rows.specs.Replay.{key_cmp}
 use Rattle.lsm_version.specs.declared.choices.Choice.{Choice}
+use Rattle.lsm_version.specs.declared.tables.Place.{Place}
 use Rattle.lsm_version.specs.Levels.{Tables}
 use Rattle.lsm_compact.specs.declared.compaction.Compaction.{Compaction}
 use Rattle.lsm_compact.specs.declared.outputs.Outputs.{Outputs}
@@ -20,11 +21,12 @@ use Rattle.lsm_compact.specs.declared.reader.Reader.{Reader}
 use Rattle.lsm_compact.specs.Building.{AreRows}
 use Rattle.lsm_compact.specs.Calls.{IsRowOfStore, no_files}
 use Rattle.lsm_compact.specs.Compacting.{HasAdded, IsKeptRow, IsNew, IsSoundCompaction, IsUsedUp, is_bare}
+use Rattle.lsm_compact.specs.Given.{AreInOrder, HasGiven}
 use Rattle.lsm_compact.specs.Outputs.{is_full}
 use Rattle.lsm_compact.specs.Ranges.{has_key}
 use Rattle.lsm_compact.specs.Readers.{IsGivenRow, IsLater, IsPast, IsSoundReader}
 use Rattle.lsm_compact.specs.Writing.{CanAdd, CanEnd, HasNoMore, HasRow, IsBegun, IsSettled, IsSound, IsWriting, MayEnd, open_rows}
-use Rattle.lsm_compact.specs.Written.{is_below}
+use Rattle.lsm_compact.specs.Written.{is_below, rows_at}
 use Rattle.lsm_compact.proofs.Ascending.{Ascend}
 use Rattle.lsm_compact.proofs.Compacts.{written_none}
 use Rattle.lsm_compact.proofs.Keys.{untrue}
@@ -241,11 +243,14 @@ kept_sound b c row (Err fault) sound kept added ok err = subst IsSoundCompaction
 
 -- ---- a new compaction
 
-pub new_is : (tables : Tables) (choice : Choice) (c : Compaction) → IsSoundReader c.reader → c.kept ≡ None
+pub new_is : (tables : Tables) (choice : Choice) (c : Compaction) (places : List Place) → IsSoundReader c.reader
+    → places ≡ choice.inputs
+    → ((rows : ℕ → List Row) → AreInOrder rows places → HasGiven (Some rows) (rows_at rows places) [] c.reader)
+    → c.kept ≡ None
     → c.outputs.stage ≡ Closed → ((key : List ℕ) → has_key c.deeper key ≡ is_below tables choice key)
     → c.inputs ≡ choice.inputs → c.outputs.level ≡ choice.output → IsWriting false c.outputs no_files []
     → IsNew tables choice c
-new_is tables choice c reader none closed ranges inputs level writing = record {
+new_is tables choice c places reader same contents none closed ranges inputs level writing = record {
   sound = record {
     reader = reader;
     over = false;
@@ -259,6 +264,8 @@ new_is tables choice c reader none closed ranges inputs level writing = record {
   inputs_are = inputs;
   level_is = level;
   none_kept = none;
+  contents = subst (λ (l : List Place). (rows : ℕ → List Row) → AreInOrder rows l
+      → HasGiven (Some rows) (rows_at rows l) [] c.reader) same contents;
   written = record {
     writing = subst (λ (l : List Row). IsWriting false c.outputs no_files l) (sym (written_none c.deeper)) writing;
     end = λ is. absurd (untrue is);

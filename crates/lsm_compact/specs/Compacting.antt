@@ -15,10 +15,11 @@ use Rattle.lsm_compact.specs.declared.outputs.Outputs.{Outputs}
 use Rattle.lsm_compact.specs.declared.port.CompactFault.{CompactFault}
 use Rattle.lsm_compact.specs.declared.port.PortFault.{PortFault}
 use Rattle.lsm_compact.specs.Calls.{Called, Files, IsRowOfStore, files_after, no_files}
+use Rattle.lsm_compact.specs.Given.{AreInOrder, GivesMore, HasGiven}
 use Rattle.lsm_compact.specs.Ranges.{has_key}
 use Rattle.lsm_compact.specs.Readers.{IsAtEnd, IsGivenRow, IsLater, IsPast, IsSoundReader}
 use Rattle.lsm_compact.specs.Writing.{AreTaken, Goes, HasRow, IsSound, IsWhole, IsWriting, open_rows}
-use Rattle.lsm_compact.specs.Written.{is_below}
+use Rattle.lsm_compact.specs.Written.{input_rows, is_below}
 
 -- ---- what is written
 
@@ -74,6 +75,8 @@ pub record IsNew (tables : Tables) (choice : Choice) (c : Compaction) : Type 0 w
   pub level_is : c.outputs.level ≡ choice.output
   pub none_kept : c.kept ≡ None
   pub written : HasWritten false c [] no_files
+  pub contents : (rows : ℕ → List Row) → AreInOrder rows choice.inputs
+      → HasGiven (Some rows) (input_rows rows choice) [] c.reader
 
 -- ---- what a call leaves
 
@@ -86,11 +89,12 @@ pub record GoesOn {P : Type 0} (went : P → List Called → P → Type 0) (star
 
 -- A call has moved a compaction on by so many rows. What was kept, and what came of the reader since, is done with, in its
 -- order, or is kept. Of the rows done with those are written that aren't left out.
-pub record HasMoved {P : Type 0} (went : P → List Called → P → Type 0) (before now : P) (old new : Compaction)
-    (fault : Option PortFault) (count : ℕ) : Type 0 where
+pub record HasMoved {P : Type 0} (went : P → List Called → P → Type 0) (told : P → Option (ℕ → List Row)) (before now : P)
+    (old new : Compaction) (fault : Option PortFault) (count : ℕ) : Type 0 where
   pub come : List Row
   pub more : List Row
   pub given : HaveCome old.reader.merge come new.reader.merge
+  pub contents : GivesMore (told before) old.reader (told now) new.reader come
   pub rows : more ++ option_to_list new.kept ≡ option_to_list old.kept ++ come
   pub count_is : length more ≡ count
   pub inputs_are : new.inputs ≡ old.inputs
@@ -109,10 +113,11 @@ pub record EndsWith {P : Type 0} (went : P → List Called → P → Type 0) (st
 
 -- A call has brought a compaction to its end. What was kept, and all that came since, is done with, and no row is to come. The
 -- edit drops the inputs, adds the outputs, which are whole, and sets no number.
-pub record HasEnded {P : Type 0} (went : P → List Called → P → Type 0) (before now : P) (old new : Compaction) (edit : Edit)
-    (count : ℕ) : Type 0 where
+pub record HasEnded {P : Type 0} (went : P → List Called → P → Type 0) (told : P → Option (ℕ → List Row)) (before now : P)
+    (old new : Compaction) (edit : Edit) (count : ℕ) : Type 0 where
   pub come : List Row
   pub given : HaveCome old.reader.merge come new.reader.merge
+  pub contents : GivesMore (told before) old.reader (told now) new.reader come
   pub count_is : length (option_to_list old.kept ++ come) ≡ count
   pub end : IsAtEnd new.reader.merge
   pub drops_are : edit.drops ≡ old.inputs

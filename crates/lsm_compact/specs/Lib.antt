@@ -2,6 +2,8 @@ pub mod Building
 pub mod Calls
 pub mod Closed
 pub mod Compacting
+pub mod Course
+pub mod Given
 pub mod Grown
 pub mod Installed
 pub mod Orderly

@@ -63,3 +63,7 @@ pub record IsGivenRow (old : Merging Input) (row : Row) (new : Merging Input) : 
 pub record IsWanting (m : Merging Input) (place : ℕ) : Type 0 where
   pub why : Unfilled
   pub source_is : slice_get m.sources place ≡ Some (Wanting why)
+
+-- it isn't: rows of it are left, or the input is at its end
+abbrev pub IsFilled : Merging Input → ℕ → Type 0
+IsFilled m place = ¬ IsWanting m place

@@ -16,9 +16,13 @@ use Rattle.lsm_compact.specs.Orderly.{in_range}
 abbrev pub is_input : List Place → ℕ → Bool
 is_input inputs number = list_any (λ (place : Place). place.number == number) inputs
 
+-- the rows of the tables at these places, in their order
+abbrev pub rows_at : (ℕ → List Row) → List Place → List Row
+rows_at rows places = flat_map (λ (place : Place). rows place.number) places
+
 -- the rows that are read, in the order of the inputs
 abbrev pub input_rows : (ℕ → List Row) → Choice → List Row
-input_rows rows choice = flat_map (λ (place : Place). rows place.number) choice.inputs
+input_rows rows choice = rows_at rows choice.inputs
 
 -- the table is deeper than the output and isn't read, and has the key in its range
 abbrev pub may_hide : Choice → List ℕ → ℕ × Placed → Bool

@@ -65,9 +65,9 @@ impl Compaction {
         rows: u32,
     ) -> Result<CompactStep, CompactFault>
         requires { IsSoundCompaction self.old }
-        ensures ok { IfOk result (λ step. IsStep P.went port.old port.new self.old self.new rows step) }
+        ensures ok { IfOk result (λ step. IsStep P.went P.told port.old port.new self.old self.new rows step) }
         ensures err { OnErr result ((count : ℕ) × (count < rows)
-            × HasMoved P.went port.old port.new self.old self.new (fault_in result) count) }
+            × HasMoved P.went P.told port.old port.new self.old self.new (fault_in result) count) }
         ensures sound { IsSoundCompaction self.new }
         ensures port { IsKept P.told P.faults port.old port.new (fault_in result) }
     {
@@ -89,7 +89,7 @@ impl Compaction {
     // Merges the next row, and writes it unless it is left out; false where none is left.
     fn merge_one<P: TablePort>(&mut self, port: &mut P) -> Result<bool, CompactFault>
         requires { IsSoundCompaction self.old }
-        ensures moved { HasMoved P.went port.old port.new self.old self.new (fault_in result) (merged_in result) }
+        ensures moved { HasMoved P.went P.told port.old port.new self.old self.new (fault_in result) (merged_in result) }
         ensures none { IfOk result (λ some. some ≡ false → IsUsedUp self.new × IsSettled self.new.outputs.stage) }
         ensures sound { IsSoundCompaction self.new }
         ensures port { IsKept P.told P.faults port.old port.new (fault_in result) }
@@ -110,7 +110,7 @@ impl Compaction {
     // Takes the next row of the merge, if none is kept; false where none is left.
     fn take_next<P: TablePort>(&mut self, port: &mut P) -> Result<bool, CompactFault>
         requires { IsSoundCompaction self.old }
-        ensures moved { HasMoved P.went port.old port.new self.old self.new (fault_in result) 0 }
+        ensures moved { HasMoved P.went P.told port.old port.new self.old self.new (fault_in result) 0 }
         ensures some { IfOk result (λ some. some ≡ true → self.new.kept ≢ None) }
         ensures none { IfOk result (λ some. some ≡ false → IsUsedUp self.new) }
         ensures outputs { self.new.outputs ≡ self.old.outputs }
@@ -135,7 +135,7 @@ impl Compaction {
         requires sound { IsSoundCompaction self.old }
         requires some { self.old.kept ≢ None }
         requires settled { IsSettled self.old.outputs.stage }
-        ensures moved { HasMoved P.went port.old port.new self.old self.new (fault_in result) (done_in result) }
+        ensures moved { HasMoved P.went P.told port.old port.new self.old self.new (fault_in result) (done_in result) }
         ensures sound { IsSoundCompaction self.new }
         ensures port { IsKept P.told P.faults port.old port.new (fault_in result) }
     {
@@ -185,8 +185,8 @@ impl Compaction {
         requires sound { IsSoundCompaction self.old }
         requires end { IsUsedUp self.old }
         requires settled { IsSettled self.old.outputs.stage }
-        ensures ok { IfOk result (λ edit. HasEnded P.went port.old port.new self.old self.new edit 0) }
-        ensures err { OnErr result (HasMoved P.went port.old port.new self.old self.new (fault_in result) 0) }
+        ensures ok { IfOk result (λ edit. HasEnded P.went P.told port.old port.new self.old self.new edit 0) }
+        ensures err { OnErr result (HasMoved P.went P.told port.old port.new self.old self.new (fault_in result) 0) }
         ensures sound { IsSoundCompaction self.new }
         ensures port { IsKept P.told P.faults port.old port.new (fault_in result) }
     {

@@ -1,5 +1,5 @@
 //! The rows of an input, a run at a time.
-ghost use Rattle.std.specs.Prelude.{◌≡◌, [], ℕ, List, Bool, All, take, Some, None, IfOk, IfSome, OnErr, OnOk, ◌<◌, ◌^◌};
+ghost use Rattle.std.specs.Prelude.{◌≡◌, [], ℕ, List, Bool, true, false, All, take, Some, None, IfOk, IfSome, OnErr, OnOk, ◌<◌, ◌^◌};
 ghost use Rattle.lsm_rows.specs.declared.rows.Row.{Row};
 ghost use Rattle.lsm_block.specs.Runs.{rows_after};
 ghost use Rattle.lsm_block.specs.TableText.{row_entry};
@@ -38,6 +38,7 @@ impl Input {
     /// An input of which no row was read.
     pub fn new(alloc: Global) -> Self
         ensures left { left_rows result ≡ [] }
+        ensures open { is_ended result ≡ false }
         ensures fault { fault_of result ≡ None }
     {
         Input::Run {
@@ -50,6 +51,7 @@ impl Input {
         requires { left_rows self.old ≡ [] }
         ensures left { left_rows self.new ≡ run }
         ensures end { run ≡ [] → self.new ≡ Ended }
+        ensures ended { is_ended self.new ≡ true → run ≡ [] }
         ensures fault { fault_of self.new ≡ None }
     {
         if run.is_empty() {
@@ -70,6 +72,8 @@ impl RowSource for Input {
     ghost left = { left_rows };
 
     ghost ended = { is_ended };
+
+    ghost whole = { is_ended };
 
     ghost fault = { fault_of };
 

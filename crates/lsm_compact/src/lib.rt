@@ -2,6 +2,7 @@
 #![tactic(auto)]
 
 mod compaction;
+mod course;
 mod deeper;
 mod draft;
 mod input;
@@ -11,6 +12,10 @@ mod port;
 mod reader;
 
 pub use compaction::{CompactStep, Compaction};
+pub use course::{
+    ended_compactions_have_made_their_edit, new_compactions_are_under_way,
+    steps_keep_compactions_under_way,
+};
 pub use deeper::Deeper;
 pub use draft::Draft;
 pub use laws::{

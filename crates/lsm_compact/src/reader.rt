@@ -1,10 +1,12 @@
 //! The rows of all inputs of a compaction, merged.
-ghost use Rattle.std.specs.Prelude.{◌≡◌, ◌<◌, ◌^◌, ℕ, List, Bool, length, None, IfOk, IfSome, IfNone, OnErr};
+ghost use Rattle.std.specs.Prelude.{◌≡◌, ◌<◌, ◌^◌, [], ℕ, List, Bool, length, Some, None, IfOk, IfSome, IfNone, OnOk, OnErr};
 ghost use Rattle.lsm_rows.specs.declared.rows.Row.{Row};
 ghost use Rattle.lsm_compact.specs.declared.outputs.Outputs.{Outputs};
 ghost use Rattle.lsm_compact.specs.Calls.{Called, files_after};
+ghost use Rattle.lsm_compact.specs.Given.{AreInOrder, GivesMore, HasGiven, given_in};
 ghost use Rattle.lsm_compact.specs.Ports.{IsKept};
-ghost use Rattle.lsm_compact.specs.Readers.{IsAtEnd, IsGivenRow, IsLater, IsSoundReader, IsWanting};
+ghost use Rattle.lsm_compact.specs.Readers.{IsAtEnd, IsFilled, IsGivenRow, IsLater, IsSoundReader, IsWanting};
+ghost use Rattle.lsm_compact.specs.Written.{rows_at};
 ghost use Rattle.lsm_compact.specs.Writing.{Goes, IsWriting, fault_in};
 
 use crate::input::{Input, Reading};
@@ -27,7 +29,9 @@ impl Reader {
     /// The tables at these places, of which no row was read; fewer than 2^32.
     pub fn new(alloc: Global, places: &[Place]) -> Result<Self, NoMemory>
         requires { length places.now < 2 ^ 32 }
-        ensures { IfOk result (λ reader. IsSoundReader reader) }
+        ensures sound { IfOk result (λ reader. IsSoundReader reader) }
+        ensures contents { IfOk result (λ reader. (rows : ℕ → List Row) → AreInOrder rows places.now
+            → HasGiven (Some rows) (rows_at rows places.now) [] reader) }
     {
         let mut readings = Vec::new(alloc);
         let mut sources = Vec::new(alloc);
@@ -49,6 +53,7 @@ impl Reader {
         ensures later { IsLater self.old.merge self.new.merge }
         ensures row { IfOk result (λ next. IfSome next (λ row. IsGivenRow self.old.merge row self.new.merge)) }
         ensures none { IfOk result (λ next. IfNone next (IsAtEnd self.new.merge)) }
+        ensures contents { GivesMore (P.told port.old) self.old (P.told port.new) self.new (given_in result) }
         ensures goes { (over : Bool) (start : P) (calls : List Called) (o : Outputs) (written : List Row)
             → P.went start calls port.old
             → IsWriting over o (files_after calls) written → Goes P.went start calls port.new over o written (fault_in result) }
@@ -73,6 +78,8 @@ impl Reader {
         requires wanting { IsWanting self.old.merge place }
         ensures sound { IsSoundReader self.new }
         ensures later { IsLater self.old.merge self.new.merge }
+        ensures filled { OnOk result (IsFilled self.new.merge place) }
+        ensures contents { GivesMore (P.told port.old) self.old (P.told port.new) self.new [] }
         ensures goes { (over : Bool) (start : P) (calls : List Called) (o : Outputs) (written : List Row)
             → P.went start calls port.old
             → IsWriting over o (files_after calls) written → Goes P.went start calls port.new over o written (fault_in result) }

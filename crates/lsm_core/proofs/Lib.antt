@@ -1,5 +1,7 @@
+pub mod Added
 pub mod AskLemmas
 pub mod ByNumber
+pub mod FirstNames
 pub mod HandedBack
 pub mod LookLemmas
 pub mod NewestLemmas
@@ -7,4 +9,5 @@ pub mod Ranges
 pub mod ReadLemmas
 pub mod SearchLemmas
 pub mod TableLemmas
+pub mod UsedNames
 pub mod WholeRows

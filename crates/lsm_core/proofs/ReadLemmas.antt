@@ -34,7 +34,8 @@ use Rattle.lsm_refine.specs.Refused.{CountsHold, LosesView, KeepsAllBut, IsLiveT
 use Rattle.lsm_refine.specs.Caused.{ReadBy}
 use Rattle.lsm_refine.proofs.FileLemmas.{whole_image}
 use Rattle.lsm_table.specs.Tables.{Opened}
-use Rattle.lsm_core.specs.Reading.{Views, Keeps, ClosesFailed, IsOutside, IsUnread, Asks, HoldsTable, IsTableOf, ReadsTable, ToldTables, Reads, seen_with, read_error}
+use Rattle.lsm_core.specs.Reading.{Views, Keeps, ClosesFailed, IsOutside, IsUnread, Asks, HoldsTable, IsTableOf}
+use Rattle.lsm_core.specs.Reading.{ReadsTable, ToldTables, OpensLive, Reads, seen_with, read_error}
 use Rattle.lsm_core.proofs.AskLemmas.{outside_by, opened_bytes, read_cause, closed_rose}
 
 some_is : {X : Type 0} (x y : X) → Some x ≡ Some y → x ≡ y
@@ -166,6 +167,10 @@ module _ (v w u : Shown) where
     counts = counts_then first.counts second.counts;
     told = second.told ∙ first.told;
     by = read_then first.counts first.by r second.by;
+    live = λ number some. ⊎_elim
+        (λ before. first.live number before)
+        (λ in_version. inr (ap (λ (k : Kept). is_some (finmap.get k.version number)) (sym first.by.kept) ∙ in_version))
+        (second.live number some);
     unchanged = λ rows told.
         let same = first.unchanged rows told in
         unchanged_then told.story same (second.unchanged rows (told_later first.by rows told same));
@@ -182,6 +187,7 @@ reads_weaker First Second v w r is so = record {
   counts = is.counts;
   told = is.told;
   by = is.by;
+  live = is.live;
   unchanged = is.unchanged;
   exact = λ rows t. all_of r (so rows) (is.exact rows t);
 }
@@ -194,6 +200,7 @@ reads_refusal First Second v w e is = record {
   counts = is.counts;
   told = is.told;
   by = is.by;
+  live = is.live;
   unchanged = is.unchanged;
   exact = is.exact;
 }
@@ -205,6 +212,7 @@ reads_so First Second v w x y is so = record {
   counts = is.counts;
   told = is.told;
   by = is.by;
+  live = is.live;
   unchanged = is.unchanged;
   exact = λ rows told. so rows (is.exact rows told);
 }
@@ -218,6 +226,7 @@ reads_wanting First Second v w x is = record {
   counts = is.counts;
   told = is.told;
   by = (tt, (None, is.by));
+  live = is.live;
   unchanged = is.unchanged;
   exact = λ rows told. tt;
 }
@@ -244,22 +253,33 @@ module _ (home : List ℕ) (version : Tables) (old new : Seen) (views : Views) w
     same rows t = record { later = t.story; told = told ∙ t.told; state = refl; dir = refl; kept = refl; views = tell rows t }
 
     pub reads_ok : {T : Type 0} (F : (ℕ → List Row) → T → Type 0) (x : T) → LosesView None v.kept (w later).kept
-        → ((rows : ℕ → List Row) → ToldTables v rows → F rows x) → Reads F v (w later) (Ok x)
-    reads_ok F x loses finds = record { counts = hold; told = told; by = keeps None loses; unchanged = same; exact = finds }
+        → OpensLive v.kept (w later).kept → ((rows : ℕ → List Row) → ToldTables v rows → F rows x) → Reads F v (w later) (Ok x)
+    reads_ok F x loses live finds = record {
+      counts = hold;
+      told = told;
+      by = keeps None loses;
+      live = live;
+      unchanged = same;
+      exact = finds;
+    }
 
     pub reads_err : {T : Type 0} (F : (ℕ → List Row) → T → Type 0) (e : StoreError) (lost : Option ℕ) → LosesView lost v.kept
         (w later).kept
-        → TablesRefused v (w later) e → ((rows : ℕ → List Row) → ToldTables v rows → IsOutside e) → Reads F v (w later) (Err e)
-    reads_err F e lost loses cause outside = record {
+        → OpensLive v.kept (w later).kept → TablesRefused v (w later) e → ((rows : ℕ → List Row) → ToldTables v rows → IsOutside e) → Reads F v (w later) (Err e)
+    reads_err F e lost loses live cause outside = record {
       counts = hold;
       told = told;
       by = (cause, (lost, keeps lost loses));
+      live = live;
       unchanged = same;
       exact = outside;
     }
 
   loses_none : LosesView None v.kept (w views).kept
   loses_none number some = inr some
+
+  opens_none : OpensLive v.kept (w views).kept
+  opens_none number some = inl some
 
   tells_same : (d : disk.State) → ViewsTell d v views
   tells_same d number view there = inl there
@@ -268,14 +288,14 @@ module _ (home : List ℕ) (version : Tables) (old new : Seen) (views : Views) w
   pub reads_nothing : {T : Type 0} (F : (ℕ → List Row) → T → Type 0) (x : T) → new.told ≡ old.told → old.faults ≤ new.faults
       → old.refusals ≤ new.refusals → ((rows : ℕ → List Row) → ToldTables v rows → F rows x) → Reads F v (w views) (Ok x)
   reads_nothing F x told faults refusals finds =
-      reads_ok told faults refusals views (λ rows t. tells_same (state_of t.story)) F x loses_none finds
+      reads_ok told faults refusals views (λ rows t. tells_same (state_of t.story)) F x loses_none opens_none finds
 
   pub reads_refused : {T : Type 0} (F : (ℕ → List Row) → T → Type 0) (e : StoreError) → new.told ≡ old.told → old.faults ≤
       new.faults
       → old.refusals ≤ new.refusals → TablesRefused v (w views) e → ((rows : ℕ → List Row) → ToldTables v rows → IsOutside e)
       → Reads F v (w views) (Err e)
   reads_refused F e told faults refusals cause outside =
-      reads_err told faults refusals views (λ rows t. tells_same (state_of t.story)) F e None loses_none cause outside
+      reads_err told faults refusals views (λ rows t. tells_same (state_of t.story)) F e None loses_none opens_none cause outside
 
   module _ (number : ℕ) (placed : Placed) (there : finmap.get version number ≡ Some placed) where
     is_live : (name : FileName) → name ≡ Named number → IsLiveTable v.kept name
@@ -303,6 +323,15 @@ module _ (home : List ℕ) (version : Tables) (old new : Seen) (views : Views) w
             → is_some (finmap.get (finmap.insert views number now) q) ≡ true
         by true is = ap is_some is
         by false is = ap is_some is ∙ some
+
+    opens_put : (now : Viewed) → OpensLive v.kept (w (finmap.insert views number now)).kept
+    opens_put now q some = by (eq_by_cmp nat_cmp q number) refl (sym (ap is_some (put_at now q)) ∙ some)
+      where
+        by : (b : Bool) → eq_by_cmp nat_cmp q number ≡ b
+            → is_some (cond (eq_by_cmp nat_cmp q number) (Some now) (finmap.get views q)) ≡ true
+            → (is_some (finmap.get views q) ≡ true) ⊎ (is_some (finmap.get version q) ≡ true)
+        by true here found = inr (ap (λ (n : ℕ). is_some (finmap.get version n)) (same_number q number here) ∙ ap is_some there)
+        by false other found = inl (sym (ap (λ b. is_some (cond b (Some now) (finmap.get views q))) other) ∙ found)
 
     abbrev TellsFile : Viewed → Type 0
     TellsFile now = (rows : ℕ → List Row) (t : ToldTables v rows) → now.bytes ≡ Some (t.tables.each number placed there).bytes
@@ -332,7 +361,8 @@ module _ (home : List ℕ) (version : Tables) (old new : Seen) (views : Views) w
         → old.faults ≤ new.faults → old.refusals ≤ new.refusals → ((rows : ℕ → List Row) → ToldTables v rows → F rows x)
         → Reads F v (w (finmap.insert views number now)) (Ok x)
     reads_put F x now tells told faults refusals finds =
-        reads_ok told faults refusals (finmap.insert views number now) (tells_put now tells) F x (loses_put now) finds
+        reads_ok told faults refusals (finmap.insert views number now) (tells_put now tells) F x (loses_put now) (opens_put now)
+        finds
 
     -- an open table was read
     module _ {T : Type 0} (Finds : List Row → T → Type 0) (later : Views) (r : Result T TableFault)
@@ -374,7 +404,7 @@ module _ (home : List ℕ) (version : Tables) (old new : Seen) (views : Views) w
         looked_fault f is unread =
             subst (λ (x : Views). Reads FindsIn v (w x) (Err (read_error (Named number) f))) (sym looks.new_is)
             (reads_err told faults refusals (finmap.insert views number looks.now) (tells_put looks.now now_tells) FindsIn
-            (read_error (Named number) f) None (loses_put looks.now)
+            (read_error (Named number) f) None (loses_put looks.now) (opens_put looks.now)
             (unread_refused (finmap.insert views number looks.now) (read_error (Named number) f) unread) (fault_outside f is))
 
         -- the view failed, and was closed
@@ -407,11 +437,22 @@ module _ (home : List ℕ) (version : Tables) (old new : Seen) (views : Views) w
             by false other found =
                 inl (sym (later_at q other) ∙ sym (ap (λ b. cond b None (finmap.get later q)) other) ∙ found)
 
+        opens_gone : OpensLive v.kept (w (finmap.remove later number)).kept
+        opens_gone q some = by (eq_by_cmp nat_cmp q number) refl (sym (ap is_some (gone_at q)) ∙ some)
+          where
+            by : (b : Bool) → eq_by_cmp nat_cmp q number ≡ b
+                → is_some (cond (eq_by_cmp nat_cmp q number) None (finmap.get later q)) ≡ true
+                → (is_some (finmap.get views q) ≡ true) ⊎ (is_some (finmap.get version q) ≡ true)
+            by true here found = inr (ap (λ (n : ℕ). is_some (finmap.get version n)) (same_number q number here)
+                ∙ ap is_some there)
+            by false other found = inl (ap is_some (sym (later_at q other))
+                ∙ sym (ap (λ b. is_some (cond b None (finmap.get later q))) other) ∙ found)
+
         pub looked_gone : r ≡ Err fault.ReadFault → Rose old.faults new.faults
             → Reads FindsIn v (w (finmap.remove later number)) (Err error.DiskFault)
         looked_gone is rose =
             reads_err told faults refusals (finmap.remove later number) (λ rows t. tells_gone (state_of t.story)) FindsIn
-            error.DiskFault (Some number) loses_gone rose (λ rows t. fault_outside fault.ReadFault is rows t)
+            error.DiskFault (Some number) loses_gone opens_gone rose (λ rows t. fault_outside fault.ReadFault is rows t)
 
 -- a table that is kept is open
 pub kept_is_open : {T : Type 0} (number named : ℕ) (views later : Views) (view : Viewed) (r : Result T StoreError) → named ≡
@@ -570,6 +611,10 @@ module _ (old new : Seen) (home : List ℕ) (k l k' l' : Kept) (h h' : Option Ha
     counts = record { dir = refl; faults = is.counts.faults; refusals = is.counts.refusals };
     told = is.told;
     by = by_whole r is.by;
+    live = λ number some. ⊎_elim
+        (λ before. inl (ap (λ (x : Views). is_some (finmap.get x number)) views ∙ before))
+        (λ in_version. inr (ap (λ (t : Tables). is_some (finmap.get t number)) version ∙ in_version))
+        (is.live number (ap (λ (x : Views). is_some (finmap.get x number)) (sym views_now) ∙ some));
     unchanged = λ rows t.
         let same = is.unchanged rows (told_part rows t) in
         record {

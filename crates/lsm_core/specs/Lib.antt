@@ -1,5 +1,6 @@
 pub mod Catalogs
 pub mod Closing
 pub mod Looking
+pub mod Obsolete
 pub mod Reading
 pub mod Searching

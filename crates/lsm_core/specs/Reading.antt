@@ -1,5 +1,5 @@
 -- What a reading of live tables does, at each of its exits.
-use Rattle.std.specs.Prelude.{◌≡◌, ℕ, ◌<◌, ◌≤◌, List, [], length, Option, Some, None, Result, IfErr, MatchResult}
+use Rattle.std.specs.Prelude.{◌≡◌, ◌⊎◌, ℕ, ◌<◌, ◌≤◌, true, is_some, List, [], length, Option, Some, None, Result, IfErr, MatchResult}
 use Rattle.std.specs.Ordering.{nat_cmp}
 use Rattle.std.specs.FinMap as finmap
 use Rattle.lsm_io.specs.Causes.{Rose}
@@ -164,12 +164,18 @@ pub record ToldTables (v : Shown) (rows : ℕ → List Row) : Type 0 where
   pub told : v.disk.told ≡ Some story
   pub tables : HasTables (state_of story) v.dir v.kept rows
 
+-- each view that is open was so before, or is of a live table
+abbrev pub OpensLive : Kept → Kept → Type 0
+OpensLive old new = (number : ℕ) → is_some (finmap.get new.views number) ≡ true
+    → (is_some (finmap.get old.views number) ≡ true) ⊎ (is_some (finmap.get old.version number) ≡ true)
+
 -- A reading of live tables changes nothing but the disk's counts and the open views, of which it
--- loses none, but where it is refused perhaps one. Where the disk tells that the tables are there,
+-- loses none, but where it is refused perhaps one; it opens live tables alone. Where the disk tells that the tables are there,
 -- the answer is as their rows say, and a refusal says nothing of any file.
 pub record Reads {T : Type 0} (Finds : (ℕ → List Row) → T → Type 0) (v w : Shown) (result : Result T StoreError) : Type 0 where
   pub counts : CountsHold v w
   pub told : w.disk.told ≡ v.disk.told
   pub by : ReadBy v w result
+  pub live : OpensLive v.kept w.kept
   pub unchanged : (rows : ℕ → List Row) (told : ToldTables v rows) → IsUnchanged told.story v w
   pub exact : (rows : ℕ → List Row) → ToldTables v rows → MatchResult result (Finds rows) IsOutside

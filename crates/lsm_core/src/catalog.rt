@@ -1,10 +1,16 @@
 //! The catalog of a store.
-ghost use Rattle.std.specs.Prelude.{◌≡◌, ◌==◌, [], if◌then◌else◌};
+ghost use Rattle.std.specs.Prelude.{◌≡◌, ◌==◌, ℕ, [], if◌then◌else◌, None, IfOk, is_some};
 ghost use Rattle.std.specs.FinMap as finmap;
+ghost use Rattle.lsm_version.specs.declared.tables.TableInfo.{TableInfo};
+ghost use Rattle.lsm_version.specs.Edits.{IsFileNumber, IsTable};
 ghost use Rattle.lsm_version.specs.Orders.{AreLevels};
+ghost use Rattle.lsm_refine.specs.Flushed.{flush_edit};
+ghost use Rattle.lsm_refine.specs.WholeEdits.{AreInRange};
+ghost use Rattle.lsm_core.specs.Catalogs.{HoldNoCurrent, AreOfLive, AreStill, HasTableMore};
 ghost use Rattle.lsm_core.specs.Looking.{AreOpened};
 ghost use Rattle.lsm_core.specs.Catalogs.{kept_with};
 ghost use Rattle.lsm_core.specs.Closing.{HasHandedBack};
+ghost use Rattle.lsm_core.specs.Obsolete.{are_holding};
 ghost use Rattle.lsm_core.specs.Reading.{Reads, seen_of};
 ghost use Rattle.lsm_folder.specs.Parts.{rows_of_tables};
 ghost use Rattle.lsm_core.specs.Searching.{FindsNewest, looked_at};
@@ -12,15 +18,16 @@ ghost use Rattle.lsm_refine.specs.Calls.{is_own_kept};
 ghost use Rattle.lsm_refine.specs.Caused.{kept_pin_of, unpinned};
 
 use crate::looking::{Tables, open_looked};
-use crate::pins::{Pin, has_own};
+use crate::pins::{Pin, are_holding, has_own};
 use crate::scanning::rows_of_tables;
 use crate::searching::search;
 use crate::tables::{OpenTables, close_all};
+use lsm_bytes::NoMemory;
 use lsm_disk::{Disk, View};
 use lsm_model::StoreError;
-use lsm_names::Folder;
+use lsm_names::{FileName, Folder};
 use lsm_rows::{Row, Rows};
-use lsm_version::Version;
+use lsm_version::{ApplyError, Edit, Version};
 use std::alloc::Global;
 use std::marker::Model;
 
@@ -45,7 +52,7 @@ pub struct Catalog<V: View> {
 impl<V: View> Model for Catalog<V> {
     ghost use Rattle.lsm_refine.specs.Kept.{Kept};
     ghost use Rattle.lsm_refine.specs.Codes.{coded_kept};
-    ghost use Rattle.lsm_core.specs.Catalogs.{AreGiven, kept_with};
+    ghost use Rattle.lsm_core.specs.Catalogs.{IsCatalog, kept_with};
 
     ghost Value = { Kept };
 
@@ -53,13 +60,15 @@ impl<V: View> Model for Catalog<V> {
 
     ghost view = { λ c. kept_with c.version c.tables c.log c.last c.pins.items c.greatest_pin c.disables };
 
-    ghost invariant = { λ c. AreGiven c.pins.items c.greatest_pin };
+    ghost invariant = { λ c. IsCatalog c.version c.tables c.pins.items c.greatest_pin };
 }
 
 impl<V: View> Catalog<V> {
     /// A catalog of these live tables, of which some are open, with no pin: logs are needed from the number `log` on, and
     /// rows up to the sequence `last` are in tables.
     pub fn new(alloc: Global, version: Version, tables: OpenTables<V>, log: u64, last: u64) -> Self
+        requires range { AreInRange version }
+        requires open { AreOfLive version tables }
         ensures { result ≡ kept_with version tables log last [] 0 0 }
     {
         Catalog {
@@ -84,6 +93,64 @@ impl<V: View> Catalog<V> {
         }
         self.pins.retain(move |pin| pin.number() != number);
         true
+    }
+
+    /// The live tables with their levels.
+    pub fn version(&self) -> &Version
+        ensures tables { result.now ≡ self.now.version }
+        ensures range { AreInRange self.now.version }
+        ensures pins { HoldNoCurrent self.now.pins }
+        ensures open { AreOfLive self.now.version self.now.views }
+    {
+        &self.version
+    }
+
+    /// The version with the table that a flush's edit adds, whose number no live table has. This
+    /// catalog stays as it was. Whatever refuses the edit is told as want of memory.
+    pub fn with_table(&self, alloc: Global, edit: &Edit) -> Result<Version, NoMemory>
+        ensures { (info : TableInfo) (log next last : ℕ) → edit.now ≡ flush_edit info log next last
+            → finmap.get self.now.version info.number ≡ None → IsFileNumber info.number → IsTable info
+            → IfOk result (HasTableMore self.now.version info) }
+    {
+        match self.version.apply(alloc, edit) {
+            Ok(version) => Ok(version),
+            // The contract says nothing of other edits, which may be refused for other reasons.
+            Err(ApplyError::NoMemory | ApplyError::BadEdit { .. } | ApplyError::BadLevels { .. }) =>
+                { Err(NoMemory) }
+        }
+    }
+
+    /// From now on these tables are live, logs are needed from this number on, and rows up to this
+    /// sequence are in tables. It takes no memory.
+    pub fn install(&mut self, version: Version, log: u64, last: u64)
+        requires range { AreInRange version }
+        requires still { AreStill self.old.version version }
+        ensures { self.new ≡ record self.old { version = version; log = log; last = last } }
+    {
+        self.version = version;
+        self.log = log;
+        self.last = last;
+    }
+
+    /// From this number on logs are needed.
+    pub fn log(&self) -> u64
+        ensures { result ≡ self.now.log }
+    {
+        self.log
+    }
+
+    /// Whether the table of this number is live.
+    pub fn has_table(&self, number: u64) -> bool
+        ensures { result ≡ is_some (finmap.get self.now.version number) }
+    {
+        self.version.get(number).is_some()
+    }
+
+    /// Whether a pin holds the file of this name. Its time grows with the number of pinned files.
+    pub fn is_pinned(&self, name: FileName) -> bool
+        ensures { result ≡ are_holding self.now.pins name }
+    {
+        are_holding(&self.pins, name)
     }
 
     /// Whether no table is live.

@@ -5,6 +5,7 @@
 mod catalog;
 mod looking;
 mod meeting;
+mod obsolete;
 mod opening;
 mod pins;
 mod scanning;
@@ -13,5 +14,6 @@ mod tables;
 
 pub use catalog::{Catalog, close_tables, find_row, open_tables, read_rows};
 pub use looking::{Tables, close_looked, look};
+pub use obsolete::next_obsolete;
 pub use pins::{Job, Pin};
 pub use tables::OpenTables;

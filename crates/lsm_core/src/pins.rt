@@ -1,12 +1,14 @@
 //! Pins: which files a store may not remove, and how far the checkpoints came that copy them.
 ghost use Rattle.std.specs.Prelude.{◌≡◌, ◌==◌, find};
+ghost use Rattle.std.specs.List.{list_any};
 ghost use Rattle.std.specs.Option.{option_map};
-ghost use Rattle.lsm_model.specs.Causes.{is_none};
-ghost use Rattle.lsm_refine.specs.Calls.{is_own_kept};
+ghost use Rattle.lsm_model.specs.Causes.{is_none, same_name};
+ghost use Rattle.lsm_refine.specs.Calls.{is_own_kept, lists_name};
 ghost use Rattle.lsm_refine.specs.Caused.{kept_pin_of};
+ghost use Rattle.lsm_core.specs.Obsolete.{are_holding};
 
-use lsm_model::CutFiles;
-use lsm_names::Folder;
+use lsm_model::{CutFile, CutFiles};
+use lsm_names::{FileName, Folder};
 use std::marker::Model;
 
 /// A checkpoint under way, as its pin keeps it.
@@ -73,6 +75,32 @@ impl Pin {
     {
         self.job.is_none()
     }
+
+    /// Whether it holds the file of this name.
+    pub fn holds(&self, name: FileName) -> bool
+        ensures { result ≡ lists_name name self.now.files }
+    {
+        is_listed(self.files.as_slice(), name)
+    }
+}
+
+// Whether two names are one.
+fn is_same(left: FileName, right: FileName) -> bool
+    ensures { result ≡ same_name left right }
+{
+    left == right
+}
+
+// Whether a file of this name is among these.
+fn is_listed(files: &[CutFile], name: FileName) -> bool
+    ensures { result ≡ list_any (λ file. same_name file.name name) files.now }
+{
+    for file in files {
+        if is_same(file.name, name) {
+            return true;
+        }
+    }
+    false
 }
 
 /// The pin of this number.
@@ -80,6 +108,19 @@ pub(crate) fn pin_by(pins: &[Pin], number: u64) -> Option<&Pin>
     ensures { option_map (λ pin. pin.now) result ≡ find (λ pin. pin.number == number) pins.now }
 {
     pins.iter().find(|pin| pin.number == number)
+}
+
+/// Whether one of the pins holds the file of this name.
+#[tactic(auto, unfolding(crate::specs::Obsolete::are_holding))]
+pub(crate) fn are_holding(pins: &[Pin], name: FileName) -> bool
+    ensures { result ≡ are_holding pins.now name }
+{
+    for pin in pins {
+        if pin.holds(name) {
+            return true;
+        }
+    }
+    false
 }
 
 /// Whether a pin of this number is there, and its caller's own.

@@ -102,7 +102,7 @@ module _ (start : State) (story : Story) (begun : Begun) (parts : List Part) whe
 -- ---- the folder
 
 -- in the root a name has room, or it is taken
-room_or_taken : (folder : List ℕ) (s : State) → parent_of folder ≡ [] → no_room folder s ≡ cond (is_some (stands (names_now s) folder)) (Some disk.Exists) None
+pub room_or_taken : (folder : List ℕ) (s : State) → parent_of folder ≡ [] → no_room folder s ≡ cond (is_some (stands (names_now s) folder)) (Some disk.Exists) None
 room_or_taken folder s root = ap (λ (p : List ℕ). cond (is_folder (names_now s) p) (cond (is_some (stands (names_now s) folder)) (Some disk.Exists) None) (Some disk.NotThere)) root
 
 taken_of : (b : Bool) → cond b (Some disk.Exists) None ≡ Some disk.Exists → b ≡ true
@@ -150,7 +150,7 @@ module _ (folder : List ℕ) (root : parent_of folder ≡ []) where
           ap (λ (n : Names). map.get n (folder ++ 47 ∷ rest)) (sym (names_after s (Put folder Folder_node)))
           ∙ get_inside (names_now made) folder rest ∙ made_free s folder rest lawful room
 
-      new_folder : IsBuilding s (just_begun folder) [] made
+      pub new_folder : IsBuilding s (just_begun folder) [] made
       new_folder = record {
         names = refl;
         holds = record {

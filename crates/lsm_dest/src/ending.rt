@@ -1,6 +1,7 @@
 //! The end of a folder: its names are made durable, and `CURRENT` is published.
 ghost use Rattle.std.specs.Prelude.{◌≡◌, ◌≢◌, ◌⊎◌, ℕ, List, length, Some, IfErr, Err};
 ghost use Rattle.lsm_disk.specs.State.{State, Story, Seen, state_of};
+ghost use Rattle.lsm_disk.specs.Tree.{TellsLawful};
 ghost use Rattle.lsm_disk.specs.Goes.{Went};
 ghost use Rattle.lsm_disk.specs.Halts.{halt_at, IsAmong};
 ghost use Rattle.lsm_disk.specs.Refusals.{no_room, no_rename};
@@ -55,9 +56,10 @@ pub trait Ending {
     fn end_folder(&mut self, folder: &Folder, current: &[u8]) -> Result<(), DiskRefusal>
         ensures went { (start : State) (story : Story) (begun : Begun) (parts : List Part) → (seen self.old).told ≡ Some story
             → begun.folder ≡ folder.now → IsBuilding start begun parts (state_of story)
-            → Went story (seen self.new).told (IsWithin begun.folder (length start.files))
+            → Went story (seen self.new).told (IsWithin begun.folder (length (state_of story).files))
             (HasNoneOrAll start begun.folder (with_current current.now parts)) (EndsAs start begun parts current.now result) }
         ensures at { IfErr result (λ r. IsAmong r.at (finish_calls (Some (just_begun folder.now)))) }
+        ensures lawful { TellsLawful (seen self.old) }
         ensures cause { HasDiskCause (seen self.old) (seen self.new) result };
 }
 

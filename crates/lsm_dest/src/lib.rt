@@ -5,5 +5,7 @@ mod ending;
 mod folder_dest;
 mod halting;
 mod hand;
+mod restoring;
 
 pub use folder_dest::FolderDest;
+pub use restoring::{Building, Restoring};

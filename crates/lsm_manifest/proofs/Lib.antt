@@ -12,3 +12,4 @@ pub mod Read
 pub mod Settling
 pub mod Steps
 pub mod Texts
+pub mod Wanting

@@ -1,20 +1,23 @@
 -- A new manifest, and the switch of `CURRENT` to it.
-use Rattle.std.specs.Prelude.{◌≡◌, ◌≢◌, ◌⊎◌, ℕ, ◌≤◌, List, [], ◌∷◌, ◌++◌, length, take, Option, Some, None, Result, Ok, Err}
+use Rattle.std.specs.Prelude.{◌≡◌, ◌≢◌, ◌⊎◌, ℕ, ◌≤◌, List, [], ◌∷◌, ◌++◌, length, take, Option, Some, None, Result, Ok, Err, IfErr}
 use Rattle.lsm_names.specs.FileNames.{spelled}
 use Rattle.lsm_names.specs.declared.file_names.FileName.TheVariants.{Manifest, Temp, Current}
 use Rattle.std.specs.FinMap as map
 use Rattle.lsm_disk.specs.Names.{Moved, File_node}
-use Rattle.lsm_disk.specs.State.{State, Change, Created, Named, Appended, Synced, Names_synced, Idle, new_file, longer, names_now}
+use Rattle.lsm_disk.specs.State.{State, Story, Seen, Change, Created, Named, Appended, Synced, Names_synced, Idle, new_file, longer, names_now, state_of, created, names_synced}
 use Rattle.lsm_disk.specs.Images.{Tree, bytes_at}
 use Rattle.lsm_disk.specs.Kept.{IsFileNow, IsKeptFile, OpSpares}
 use Rattle.lsm_disk.specs.Dest.{path_in}
 use Rattle.lsm_disk.specs.Halts.{halt_at}
-use Rattle.lsm_disk.specs.Answers.{LeftBy}
+use Rattle.lsm_disk.specs.Answers.{LeftBy, Makes}
+use Rattle.lsm_disk.specs.Goes.{Went}
+use Rattle.lsm_disk.specs.Tree.{TellsLawful}
 use Rattle.lsm_disk.specs.Refusals.{no_room, or_else}
 use Rattle.lsm_disk.specs.declared.calls.Halt.{Halt}
 use Rattle.lsm_disk.specs.declared.calls.DiskCall.{DiskCall}
 use Rattle.lsm_disk.specs.declared.calls.DiskCall.TheVariants as call
 use Rattle.lsm_disk.specs.declared.calls.DiskError.{DiskError}
+use Rattle.lsm_disk.specs.declared.calls.DiskError.TheVariants.{NoMemory}
 use Rattle.lsm_disk.specs.declared.calls.DiskRefusal.{DiskRefusal}
 use Rattle.lsm_publish.specs.Publishing.{Old, StillHas, ShowsOld, IsMove, IsPublished, Switched, written, write_calls, switch_calls, no_publishing}
 use Rattle.lsm_version.specs.declared.edits.Edit.{Edit}
@@ -172,3 +175,55 @@ HasLed temporary path other old id bytes k text (Ok value) s =
 HasLed temporary path other old id bytes k text (Err r) s =
     ((r.at.path ≡ temporary) × StillHas path old s × IsFileNow s other k (written text))
     ⊎ (Switched temporary path old id bytes (Err r) s × IsKeptFile s other k (written text))
+
+-- ---- want of memory
+
+-- the name leads to a file now, or to nothing
+abbrev pub HasFile : List ℕ → State → Type 0
+HasFile path s = (id : ℕ) × (map.get (names_now s) path ≡ Some (File_node id))
+
+abbrev pub IsFree : List ℕ → State → Type 0
+IsFree path s = map.get (names_now s) path ≡ None
+
+-- The changes before the switch: the two files are made, filled and synced, and names are synced. No name moves.
+abbrev pub Begins : List ℕ → ℕ → ℕ → Change → Type 0
+Begins dir number first (Created other) = (other ≡ manifest_path dir number) ⊎ (other ≡ temporary_path dir number)
+Begins dir number first (Named op) = ⊥
+Begins dir number first (Appended k bytes) = first ≤ k
+Begins dir number first (Synced k) = first ≤ k
+Begins dir number first Names_synced = Unit {0}
+Begins dir number first Idle = Unit {0}
+
+-- The call at which memory was wanting tells which of the two new files are there: none, the manifest's, or both.
+abbrev pub BegunAt : List ℕ → ℕ → Halt → State → Type 0
+BegunAt dir number at s =
+    ((at ≡ halt_at call.Create (manifest_path dir number)) × IsFree (manifest_path dir number) s
+    × IsFree (temporary_path dir number) s)
+    ⊎ (((at ≡ halt_at call.Append (manifest_path dir number)) ⊎ (at ≡ halt_at call.Create (temporary_path dir number)))
+    × HasFile (manifest_path dir number) s × IsFree (temporary_path dir number) s)
+    ⊎ (((at ≡ halt_at call.Append (temporary_path dir number)) ⊎ (at ≡ halt_at call.Rename (current_path dir)))
+    × HasFile (manifest_path dir number) s × HasFile (temporary_path dir number) s)
+
+-- Where both names were free, want of memory comes before the switch, and leaves the files that were made.
+abbrev pub WantsMemory : {T : Type 0} → List ℕ → ℕ → Option Story → Option Story → Result T DiskRefusal → Type 0
+WantsMemory dir number old new result = IfErr result (λ r. r.why ≡ NoMemory → (story : Story) → old ≡ Some story
+    → IsFree (manifest_path dir number) (state_of story) → IsFree (temporary_path dir number) (state_of story)
+    → Went story new (Begins dir number (length (state_of story).files)) Anything (BegunAt dir number r.at))
+
+-- No call was made, since memory was wanting for the texts.
+abbrev pub IsUntouched : {T : Type 0} → List ℕ → Seen → Seen → Result T DiskRefusal → Type 0
+IsUntouched new old now (Ok value) = ⊥
+IsUntouched new old now (Err r) = (now ≡ old) × (r ≡ record { at = halt_at call.Create new; why = NoMemory })
+
+-- the disk's names are a tree, unless no call was made
+abbrev pub LawfulOrUntouched : {T : Type 0} → List ℕ → Seen → Seen → Result T DiskRefusal → Type 0
+LawfulOrUntouched new old now result = TellsLawful old ⊎ IsUntouched new old now result
+
+-- what the making of a file did where memory was wanting: nothing, or it made the empty file
+abbrev pub FillWants : List ℕ → DiskRefusal → Option Story → Option Story → Type 0
+FillWants path r old new = ((r.at ≡ halt_at call.Create path) × (new ≡ old))
+    ⊎ ((r.at ≡ halt_at call.Append path) × Makes old (created path) new)
+
+-- what the switch did then: names were synced
+abbrev pub LeadWants : List ℕ → DiskRefusal → Option Story → Option Story → Type 0
+LeadWants path r old new = (r.at ≡ halt_at call.Rename path) × Makes old names_synced new

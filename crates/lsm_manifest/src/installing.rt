@@ -12,10 +12,11 @@ ghost use Rattle.lsm_disk.specs.Answers.{HasDiskCause};
 ghost use Rattle.lsm_disk.specs.Tree.{TellsLawful};
 ghost use Rattle.lsm_disk.specs.Refusals.{no_room, no_rename};
 ghost use Rattle.lsm_disk.specs.declared.calls.DiskCall.TheVariants as calls;
+ghost use Rattle.lsm_disk.specs.declared.calls.DiskError.TheVariants as why;
 ghost use Rattle.lsm_publish.specs.Publishing.{Old, StillHas, Writes, Switches, AnswersAs, SyncsNeedNoMemory, switch_calls, written};
 ghost use Rattle.lsm_version.specs.declared.edits.Edit.{Edit};
 ghost use Rattle.lsm_manifest.specs.Texts.{IsTaken, manifest_text};
-ghost use Rattle.lsm_manifest.specs.Installing.{Before, StillBefore, IsApart, NamesOldOrNew, Installs, Leaves, Anything, IsFilled, IsOnly, LeadsEither, HasLed, new_calls, install_calls, no_installing, current_path, manifest_path, temporary_path, current_text};
+ghost use Rattle.lsm_manifest.specs.Installing.{Before, StillBefore, IsApart, NamesOldOrNew, Installs, Leaves, Anything, FillWants, LeadWants, WantsMemory, LawfulOrUntouched, IsFilled, IsOnly, LeadsEither, HasLed, new_calls, install_calls, no_installing, current_path, manifest_path, temporary_path, current_text};
 
 use crate::writing::{frame_edit, refusal};
 use lsm_bytes::{Bytes, NoMemory};
@@ -78,6 +79,8 @@ fn write_new<D: Disk>(disk: &mut D, path: &Path, bytes: &[u8]) -> Result<(), Dis
     ensures answer { AnswersAs (no_room path.now) (D.seen disk.old) result }
     ensures lawful { TellsLawful (D.seen disk.old) }
     ensures memory { SyncsNeedNoMemory result }
+    ensures wanting { IfErr result (λ r. r.why ≡ why.NoMemory
+        → FillWants path.now r (D.seen disk.old).told (D.seen disk.new).told) }
     ensures cause { HasDiskCause (D.seen disk.old) (D.seen disk.new) result }
 {
     if let Err(why) = disk.create(path) {
@@ -103,6 +106,8 @@ fn lead<D: Disk>(disk: &mut D, temporary: &Path, path: &Path) -> Result<(), Disk
     ensures at { IfErr result (λ r. IsAmong r.at (halt_at calls.SyncNames temporary.now ∷ switch_calls path.now)) }
     ensures answer { AnswersAs (no_rename temporary.now path.now) (D.seen disk.old) result }
     ensures memory { SyncsNeedNoMemory result }
+    ensures wanting { IfErr result (λ r. r.why ≡ why.NoMemory
+        → LeadWants path.now r (D.seen disk.old).told (D.seen disk.new).told) }
     ensures cause { HasDiskCause (D.seen disk.old) (D.seen disk.new) result }
 {
     if let Err(why) = disk.sync_names() {
@@ -138,7 +143,12 @@ pub(crate) fn install<D: Disk>(
     ensures answer { (dir : List ℕ) (number : ℕ) → IsFileName (names.Manifest number) → places.now.manifest ≡ manifest_path dir number
         → places.now.temporary ≡ temporary_path dir number
         → places.now.current ≡ current_path dir → AnswersAs (no_installing dir number) (D.seen disk.old) result }
+    ensures lawful { TellsLawful (D.seen disk.old) }
     ensures memory { SyncsNeedNoMemory result }
+    ensures wanting { (dir : List ℕ) (number : ℕ) → IsFileName (names.Manifest number)
+        → places.now.manifest ≡ manifest_path dir number
+        → places.now.temporary ≡ temporary_path dir number → places.now.current ≡ current_path dir
+        → WantsMemory dir number (D.seen disk.old).told (D.seen disk.new).told result }
     ensures cause { HasDiskCause (D.seen disk.old) (D.seen disk.new) result }
 {
     if let Err(refused) = write_new(disk, &places.manifest, text) {
@@ -176,7 +186,11 @@ pub(crate) fn write_manifest<D: Disk>(
         → places.now.current ≡ current_path dir → IfErr result (λ r. IsAmong r.at (install_calls dir number)) }
     ensures answer { (dir : List ℕ) → places.now.manifest ≡ manifest_path dir number → places.now.temporary ≡ temporary_path dir number
         → places.now.current ≡ current_path dir → AnswersAs (no_installing dir number) (D.seen disk.old) result }
+    ensures lawful { LawfulOrUntouched places.now.manifest (D.seen disk.old) (D.seen disk.new) result }
     ensures memory { SyncsNeedNoMemory result }
+    ensures wanting { (dir : List ℕ) → places.now.manifest ≡ manifest_path dir number
+        → places.now.temporary ≡ temporary_path dir number → places.now.current ≡ current_path dir
+        → WantsMemory dir number (D.seen disk.old).told (D.seen disk.new).told result }
     ensures cause { HasDiskCause (D.seen disk.old) (D.seen disk.new) result }
 {
     let Ok(()) = frame_edit(alloc, frame, 0, edit) else {

@@ -15,7 +15,7 @@ ghost use Rattle.lsm_publish.specs.Publishing.{AnswersAs, SyncsNeedNoMemory};
 ghost use Rattle.lsm_wal.specs.Answered.{IsRefusedAt, AnswersAt};
 ghost use Rattle.lsm_manifest.specs.Texts.{IsTaken, manifest_text};
 ghost use Rattle.lsm_manifest.specs.Standing.{Stands, HoldsEither, IsLeft};
-ghost use Rattle.lsm_manifest.specs.Installing.{Before, StillBefore, IsApart, NamesOldOrNew, Installs, Leaves, install_calls, no_installing, manifest_path};
+ghost use Rattle.lsm_manifest.specs.Installing.{Before, StillBefore, IsApart, NamesOldOrNew, Installs, Leaves, LawfulOrUntouched, WantsMemory, install_calls, no_installing, manifest_path};
 
 use crate::installing::{places_in, write_manifest};
 use crate::writing::{frame_edit, refusal, write_record};
@@ -134,7 +134,11 @@ impl Manifest {
 
         ensures at { IfErr result (λ r. IsAmong r.at (install_calls self.old.dir number)) }
         ensures answer { AnswersAs (no_installing self.old.dir number) (D.seen disk.old) result }
+        ensures lawful { LawfulOrUntouched (manifest_path self.old.dir number) (D.seen disk.old) (D.seen disk.new) result }
         ensures memory { SyncsNeedNoMemory result }
+
+        // Where memory is wanting, `CURRENT` isn't touched, and the call tells which of the two new files are there.
+        ensures wanting { WantsMemory self.old.dir number (D.seen disk.old).told (D.seen disk.new).told result }
         ensures cause { HasDiskCause (D.seen disk.old) (D.seen disk.new) result }
     {
         let places = places_in(&self.dir, number);

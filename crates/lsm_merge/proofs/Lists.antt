@@ -1,6 +1,6 @@
 -- Elements of lists, and lists with one element set.
 use Prim.Native.Nat.{zero, suc}
-use Rattle.std.proofs.Common.{◌≡◌, ℕ, ◌+◌, List, [], ◌∷◌, slice_set, refl, sym, ap, arith, inl, inr, ⊎_elim}
+use Rattle.std.proofs.Common.{◌≡◌, ℕ, ◌+◌, List, [], ◌∷◌, slice_set, map, get_or, ◌∙◌, refl, sym, ap, arith, inl, inr, ⊎_elim}
 use Rattle.std.specs.Prelude.{◌⊎◌, Some, All, Contains, slice_get}
 use Rattle.std.specs.List.{sum_by}
 use Rattle.std.specs.List.Sorted.{IsStrictlySortedBy}
@@ -55,6 +55,13 @@ unset_cases (x ∷ xs) zero y (suc j) z is = inr is
 unset_cases (x ∷ xs) (suc i) y zero z is = inr is
 unset_cases (x ∷ xs) (suc i) y (suc j) z is = ⊎_elim (λ same. inl (ap suc same)) (λ other. inr other)
     (unset_cases xs i y j z is)
+
+-- what is seen of the elements, where one was set to another of which the same is seen
+pub map_set : {X Y : Type 0} (f : X → Y) (xs : List X) (i : ℕ) (x y : X) → x ≡ get_or xs i x → f y ≡ f x
+    → map f (slice_set xs i y) ≡ map f xs
+map_set f [] i x y at same = refl
+map_set {X} {Y} f (z ∷ xs) zero x y at same = ap (λ (v : Y). v ∷ map f xs) (same ∙ ap f at)
+map_set {X} {Y} f (z ∷ xs) (suc i) x y at same = ap (λ (l : List Y). f z ∷ l) (map_set f xs i x y at same)
 
 -- a sum where one element was set
 pub sum_set : {X : Type 0} (f : X → ℕ) (xs : List X) (i : ℕ) (x y : X) → slice_get xs i ≡ Some x

@@ -1,5 +1,5 @@
 //! Merging the rows of several sources.
-ghost use Rattle.std.specs.Prelude.{◌≡◌, ◌≢◌, ◌+◌, ◌<◌, ◌≤◌, ◌^◌, [], length, slice_get, Contains, Some, None, IsTrue, IsFalse, OnOk, OnErr, IfOk, IfErr, IfSome, MatchOption};
+ghost use Rattle.std.specs.Prelude.{◌≡◌, ◌≢◌, ◌+◌, ◌<◌, ◌≤◌, ◌^◌, [], length, map, slice_get, Contains, Some, None, IsTrue, IsFalse, OnOk, OnErr, IfOk, IfErr, IfSome, MatchOption};
 ghost use Rattle.std.specs.Borrow.{Lends, sem};
 ghost use Rattle.lsm_merge.specs.Merging.{Merging, IsReady, IsNext, IsOver, IsAhead, KeepsRows, ToldFaults, HasCause};
 
@@ -62,6 +62,7 @@ impl<R: RowSource> Merge<R> {
         ensures answers { ToldFaults R.fault result self.old.sources self.new.sources }
         ensures ahead { IsAhead R.left R.ended self.old self.new }
         ensures ready { IsReady R.left R.ended self.new }
+        ensures whole { map R.whole self.new.sources ≡ map R.whole self.old.sources }
     {
         self.find()?;
         Ok(self.found.take())
@@ -83,6 +84,7 @@ impl<R: RowSource> Merge<R> {
         requires { IsReady R.left R.ended self.old }
         ensures step { IsStep R.left R.ended R.fault result self.old self.new }
         ensures ok { OnOk result (IsFound self.new) }
+        ensures whole { map R.whole self.new.sources ≡ map R.whole self.old.sources }
     {
         self.ask_all()?;
         while self.has_more() {
@@ -96,6 +98,7 @@ impl<R: RowSource> Merge<R> {
         requires { IsReady R.left R.ended self.old }
         ensures step { IsStep R.left R.ended R.fault result self.old self.new }
         ensures ok { OnOk result (self.new.asked ≡ length self.new.sources) }
+        ensures whole { map R.whole self.new.sources ≡ map R.whole self.old.sources }
     {
         while (self.asked as usize) < self.sources.as_slice().len() {
             self.ask_next()?;
@@ -109,6 +112,7 @@ impl<R: RowSource> Merge<R> {
         requires more { self.old.asked < length self.old.sources }
         ensures step { IsStep R.left R.ended R.fault result self.old self.new }
         ensures ok { OnOk result (self.new.asked ≡ self.old.asked + 1) }
+        ensures whole { map R.whole self.new.sources ≡ map R.whole self.old.sources }
     {
         if self.heads.reserve().is_err() {
             return Err(MergeFault::NoMemory);
@@ -149,6 +153,7 @@ impl<R: RowSource> Merge<R> {
         ensures step { IsStep R.left R.ended R.fault result self.old self.new }
         ensures asked { self.new.asked ≡ length self.new.sources }
         ensures fewer { OnOk result (rows_ahead R.left self.new < rows_ahead R.left self.old) }
+        ensures whole { map R.whole self.new.sources ≡ map R.whole self.old.sources }
     {
         let place = self.heads.first_place();
         match self.sources[place as usize].next() {

@@ -16,6 +16,10 @@ pub trait RowSource {
     /// Whether it is at its end: no row is left, and none follows.
     ghost ended: { Self → Bool };
 
+    /// Whether it knows all the rows that it has left. No call of it changes that: where it doesn't
+    /// know them, its lender tells it of more.
+    ghost whole: { Self → Bool };
+
     /// The fault of its last answer; none where that was no fault, or it wasn't asked yet.
     ghost fault: { Self → Option Self.Fault };
 
@@ -27,6 +31,7 @@ pub trait RowSource {
             (λ row. left self.old ≡ row ∷ left self.new)) }
         ensures err { OnErr result (left self.new ≡ left self.old) }
         ensures end { ended self.old ≡ true → ended self.new ≡ true }
+        ensures whole { whole self.new ≡ whole self.old }
         ensures answered { OnOk result (fault self.new ≡ None) }
         ensures refused { IfErr result (λ why. fault self.new ≡ Some why) };
 

@@ -46,7 +46,7 @@ not_own dir s free = elim (bytes_eq s.own dir) as (λ b. (b || is_some (folder_o
 -- the folder that is begun is there, so it isn't one of a free name
 begun_there : (dir : List ℕ) (folders : List FolderRead) (begun : Option (List ℕ)) → IsThere folders begun → begun ≡ Some dir
     → (folder : FolderRead) × (folder_of dir folders ≡ Some folder)
-begun_there dir folders begun there is = subst (IsThere folders) is there
+begun_there dir folders begun there is = let found : IsThere folders (Some dir) = subst (IsThere folders) is there in (found.0, found.1)
 
 not_begun : (dir : List ℕ) (q u : State) → IsCounted q → is_taken dir q ≡ false → u.begun ≡ q.begun → u.begun ≡ Some dir → ⊥
 not_begun dir q u counted free same is =

@@ -77,22 +77,24 @@ record AreWithin (c : Core) : Type 0 where
 -- the folder that is begun is there with one folder more
 there_more : (folders : List FolderRead) (new : FolderRead) (begun : Option (List ℕ)) → IsThere folders begun → IsThere (folders ++ new ∷ []) begun
 there_more folders new None there = tt
-there_more folders new (Some dir) there = (there.0, folder_stays dir folders there.0 new there.1)
+there_more folders new (Some dir) there = (there.0, folder_stays dir folders there.0 new there.1, there.2)
 
-there_new : (folders : List FolderRead) (new : FolderRead) → folder_of new.name folders ≡ None → IsThere (folders ++ new ∷ []) (Some new.name)
-there_new folders new free = (new, folder_new new.name folders new free ((bytes_eq-Decides new.name new.name).1 refl))
+there_new : (folders : List FolderRead) (new : FolderRead) → folder_of new.name folders ≡ None → new.sure ≡ false
+    → IsThere (folders ++ new ∷ []) (Some new.name)
+there_new folders new free unsure = (new, folder_new new.name folders new free ((bytes_eq-Decides new.name new.name).1 refl), unsure)
 
 module _ (a b : Core) (batches : List (List Op)) (within : AreWithin a) where
-  founds : (new : FolderRead) (begun : Option (List ℕ)) → folder_of new.name a.folders ≡ None → (begun ≡ a.begun) ⊎ (begun ≡ Some new.name)
-      → IsThere (a.folders ++ new ∷ []) begun
-  founds new begun free kept = elim kept [
+  founds : (new : FolderRead) (begun : Option (List ℕ)) → folder_of new.name a.folders ≡ None → new.sure ≡ false
+      → (begun ≡ a.begun) ⊎ (begun ≡ Some new.name) → IsThere (a.folders ++ new ∷ []) begun
+  founds new begun free unsure kept = elim kept [
     | inl old ↦ subst (IsThere (a.folders ++ new ∷ [])) (sym old) (there_more a.folders new a.begun within.begun)
-    | inr now ↦ subst (IsThere (a.folders ++ new ∷ [])) (sym now) (there_new a.folders new free)
+    | inr now ↦ subst (IsThere (a.folders ++ new ∷ [])) (sym now) (there_new a.folders new free unsure)
   ]
 
-  changes : (new : FolderRead) (begun : Option (List ℕ)) → a.begun ≡ Some new.name → (begun ≡ a.begun) ⊎ (begun ≡ None) → IsThere (with_folder new a.folders) begun
+  changes : (new : FolderRead) (begun : Option (List ℕ)) → a.begun ≡ Some new.name
+      → ((begun ≡ a.begun) × (new.sure ≡ false)) ⊎ (begun ≡ None) → IsThere (with_folder new a.folders) begun
   changes new begun was kept = elim kept [
-    | inl old ↦ subst (IsThere (with_folder new a.folders)) (sym (old ∙ was)) (new, folder_placed new a.folders)
+    | inl old ↦ subst (IsThere (with_folder new a.folders)) (sym (old.0 ∙ was)) (new, folder_placed new a.folders, old.1)
     | inr none ↦ subst (IsThere (with_folder new a.folders)) (sym none) tt
   ]
 
@@ -132,7 +134,7 @@ module _ (a b : Core) (batches : List (List Op)) (within : AreWithin a) where
       begun = there_more a.folders folder a.begun within.begun;
     })
     | Counted count none is ↦ subst AreWithin (sym is) (record { numbers = within.numbers; fronts = within.fronts; begun = within.begun })
-    | Founded new begun none free kept is ↦ subst AreWithin (sym is) (record { numbers = within.numbers; fronts = within.fronts; begun = founds new begun free kept })
+    | Founded new begun none free unsure kept is ↦ subst AreWithin (sym is) (record { numbers = within.numbers; fronts = within.fronts; begun = founds new begun free unsure kept })
     | Changed new begun none was kept is ↦ subst AreWithin (sym is) (record { numbers = within.numbers; fronts = within.fronts; begun = changes new begun was kept })
   ]
 

@@ -36,7 +36,7 @@ module _ (a b : Core) (batches : List (List Op)) where
     | Stepped number pin holder none found same is ↦ stays none (ap (λ (c : Core). c.accepted) is)
     | Published number folder none is ↦ stays none (ap (λ (c : Core). c.accepted) is)
     | Counted count none is ↦ stays none (ap (λ (c : Core). c.accepted) is)
-    | Founded new begun none free kept is ↦ stays none (ap (λ (c : Core). c.accepted) is)
+    | Founded new begun none free unsure kept is ↦ stays none (ap (λ (c : Core). c.accepted) is)
     | Changed new begun none was kept is ↦ stays none (ap (λ (c : Core). c.accepted) is)
   ]
 
@@ -51,7 +51,7 @@ module _ (a b : Core) (batches : List (List Op)) where
     | Stepped number pin holder none found same is ↦ (ap (λ (c : Core). c.own) is, ap (λ (c : Core). c.opening) is, ap (λ (c : Core). c.began) is)
     | Published number folder none is ↦ (ap (λ (c : Core). c.own) is, ap (λ (c : Core). c.opening) is, ap (λ (c : Core). c.began) is)
     | Counted count none is ↦ (ap (λ (c : Core). c.own) is, ap (λ (c : Core). c.opening) is, ap (λ (c : Core). c.began) is)
-    | Founded new begun none free kept is ↦ (ap (λ (c : Core). c.own) is, ap (λ (c : Core). c.opening) is, ap (λ (c : Core). c.began) is)
+    | Founded new begun none free unsure kept is ↦ (ap (λ (c : Core). c.own) is, ap (λ (c : Core). c.opening) is, ap (λ (c : Core). c.began) is)
     | Changed new begun none was kept is ↦ (ap (λ (c : Core). c.own) is, ap (λ (c : Core). c.opening) is, ap (λ (c : Core). c.began) is)
   ]
 
@@ -139,7 +139,7 @@ module _ (number batches : ℕ) (files : List PinnedFile) (built : Option (List 
         | Stepped at pin holder none found same is ↦ subst P (sym is) (record { given = held.given; only = stepped at pin holder found same })
         | Published other folder none is ↦ subst P (sym is) (record { given = held.given; only = unpinned other })
         | Counted count none is ↦ subst P (sym is) (record { given = held.given; only = held.only })
-        | Founded new begun none free kept is ↦ subst P (sym is) (record { given = held.given; only = held.only })
+        | Founded new begun none free unsure kept is ↦ subst P (sym is) (record { given = held.given; only = held.only })
         | Changed new begun none was kept is ↦ subst P (sym is) (record { given = held.given; only = held.only })
       ]
 
@@ -185,12 +185,13 @@ module _ (a b : Core) (more : List (List Op)) (name : List ℕ) (folder : Folder
     ];
   }
 
-  changed_one : (new : FolderRead) (begun : Option (List ℕ)) → a.begun ≡ Some new.name → (begun ≡ a.begun) ⊎ (begun ≡ None)
+  changed_one : (new : FolderRead) (begun : Option (List ℕ)) → a.begun ≡ Some new.name
+      → ((begun ≡ a.begun) × (new.sure ≡ false)) ⊎ (begun ≡ None)
       → IsLeft name folder (record a { folders = with_folder new a.folders; begun = begun })
   changed_one new begun was kept = record {
     found = folder_kept name new a.folders (λ same. left.apart (was ∙ ap (λ (n : List ℕ). Some n) same)) ∙ left.found;
     apart = λ is. elim kept [
-      | inl old ↦ left.apart (sym old ∙ is)
+      | inl old ↦ left.apart (sym old.0 ∙ is)
       | inr none ↦ let no : None ≡ Some name = sym none ∙ is in absurd (cc)
     ];
   }
@@ -207,7 +208,7 @@ module _ (a b : Core) (more : List (List Op)) (name : List ℕ) (folder : Folder
         | Stepped at pin holder none here same is ↦ subst P (sym is) (record { found = left.found; apart = left.apart })
         | Published other new none is ↦ subst P (sym is) (record { found = folder_stays name a.folders folder new left.found; apart = left.apart })
         | Counted count none is ↦ subst P (sym is) (record { found = left.found; apart = left.apart })
-        | Founded new begun none free kept is ↦ subst P (sym is) (founded new begun free kept)
+        | Founded new begun none free unsure kept is ↦ subst P (sym is) (founded new begun free kept)
         | Changed new begun none was kept is ↦ subst P (sym is) (changed_one new begun was kept)
       ]
 

@@ -13,10 +13,10 @@ use Rattle.lsm_model.proofs.Cores.{moved, becomes_same, halts_same}
 use Rattle.lsm_model.proofs.CrashLemmas.{no_folder}
 
 pub begin_moves : (s t : State) (dir : List ℕ) (result : Result (Unit {0}) DestError) → BeginsFolder s dir result t → Moves (core s) (core t) []
-begin_moves s t dir (Ok done) h = Founded (unfinished dir) (Some dir) refl (no_folder dir s h.1) (inr refl) (becomes_same h.2)
+begin_moves s t dir (Ok done) h = Founded (unfinished dir) (Some dir) refl (no_folder dir s h.1) refl (inr refl) (becomes_same h.2)
 begin_moves s t dir (Err dest.Fault) h = elim h.1 [
   | inl f ↦ Same refl (halts_same f)
-  | inr f ↦ Founded (unfinished dir) s.begun refl (no_folder dir s f.0) (inl refl) (halts_same f.1)
+  | inr f ↦ Founded (unfinished dir) s.begun refl (no_folder dir s f.0) refl (inl refl) (halts_same f.1)
 ]
 begin_moves s t dir (Err (dest.Halted first)) h = Same refl (ap core h.1)
 begin_moves s t dir (Err dest.Exists) h = Same refl (becomes_same h.2)
@@ -36,7 +36,7 @@ finish_moves s t (Ok done) h =
     Changed (record { name = h.1.dir; reading = h.1.reading; sure = true }) None refl h.1.begun (inr refl) (becomes_same h.1.rest)
 finish_moves s t (Err dest.Fault) h = elim h.1.halts [
   | inl f ↦ Same refl (halts_same f)
-  | inr f ↦ Changed (record { name = h.1.dir; reading = h.1.reading; sure = false }) s.begun refl h.1.begun (inl refl) (halts_same f)
+  | inr f ↦ Changed (record { name = h.1.dir; reading = h.1.reading; sure = false }) s.begun refl h.1.begun (inl (refl, refl)) (halts_same f)
 ]
 finish_moves s t (Err (dest.Halted first)) h = Same refl (ap core h.1)
 finish_moves s t (Err dest.Exists) h = absurd h

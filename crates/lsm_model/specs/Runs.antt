@@ -1,5 +1,5 @@
 -- What a step, and a run of them, makes of the part of a state that outlives upkeep.
-use Rattle.std.specs.Prelude.{◌≡◌, ◌⊎◌, ℕ, ◌+◌, List, [], ◌∷◌, ◌++◌, length, Option, Some, None, Result, Ok, Err}
+use Rattle.std.specs.Prelude.{◌≡◌, ◌⊎◌, ℕ, ◌+◌, false, List, [], ◌∷◌, ◌++◌, length, Option, Some, None, Result, Ok, Err}
 use Rattle.lsm_rows.specs.declared.operations.Op.{Op}
 use Rattle.lsm_rows.specs.Replay.{Contents}
 use Rattle.lsm_model.specs.declared.errors.StoreError.{StoreError}
@@ -70,7 +70,7 @@ core s = record {
 
 -- How a step moves that part: not at all; by one batch more; by a new pin, or one that is given up again; by a pin less;
 -- by a checkpoint's progress; by a folder more, whose pin ends; by the count of disables; by a folder more of a free name, which
--- may be the begun one now; or by what the begun folder reads as, which may end.
+-- isn't sure and may be the begun one now; or by what the begun folder reads as, which isn't sure while it stays begun.
 pub data Moves (s t : Core) (batches : List (List Op)) : Type 0 where
   Same : batches ≡ [] → t ≡ s → Moves s t batches
   Wrote : (ops : List Op) → batches ≡ ops ∷ [] → t ≡ record s { accepted = s.accepted ++ ops ∷ [] } → Moves s t batches
@@ -94,7 +94,9 @@ pub data Moves (s t : Core) (batches : List (List Op)) : Type 0 where
       → t ≡ record s { pins = without_pin number s.pins; folders = s.folders ++ folder ∷ [] } → Moves s t batches
   Counted : (count : ℕ) → batches ≡ [] → t ≡ record s { disables = count } → Moves s t batches
   Founded : (folder : FolderRead) (begun : Option (List ℕ)) → batches ≡ [] → folder_of folder.name s.folders ≡ None
-      → (begun ≡ s.begun) ⊎ (begun ≡ Some folder.name) → t ≡ record s { folders = s.folders ++ folder ∷ []; begun = begun }
+      → folder.sure ≡ false → (begun ≡ s.begun) ⊎ (begun ≡ Some folder.name)
+      → t ≡ record s { folders = s.folders ++ folder ∷ []; begun = begun }
       → Moves s t batches
   Changed : (folder : FolderRead) (begun : Option (List ℕ)) → batches ≡ [] → s.begun ≡ Some folder.name
-      → (begun ≡ s.begun) ⊎ (begun ≡ None) → t ≡ record s { folders = with_folder folder s.folders; begun = begun } → Moves s t batches
+      → ((begun ≡ s.begun) × (folder.sure ≡ false)) ⊎ (begun ≡ None)
+      → t ≡ record s { folders = with_folder folder s.folders; begun = begun } → Moves s t batches

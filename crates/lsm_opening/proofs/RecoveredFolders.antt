@@ -392,7 +392,16 @@ shown_at dir number edits = record {
 module _ (dir : List ℕ) (told2 told3 told4 : Option Story) (found : Found) (numbers : Numbers) (drawn : IsDrawn found numbers)
     (behind : AreBefore found.next found.names) (small : found.sequence < 2 ^ 56) (v : Tables) (n : List FileName)
     (x : Recovered) (go : HasGoneOn dir v n numbers found.sequence told3 told4 x) where
-  -- on every disk the parts are a store's
+  -- on every disk the parts are a store's: all names are files'
+  written_fit : All IsFileName found.names → HasWritten dir found.version found.names found.rows numbers.first told2 told3 v n
+      → All IsFileName n
+  written_fit fit (No_rows none same version_so names_so) = subst (All IsFileName) (sym names_so) fit
+  written_fit fit (With_table info some has version_so names_so) = subst (All IsFileName) (sym names_so)
+      (All-append IsFileName found.names (Table numbers.first ∷ []) fit
+      (All-cons IsFileName (Table numbers.first) []
+      (fits_number numbers.first drawn.some (omega (arith, drawn.most, drawn.log, drawn.manifest))) (All-nil IsFileName)))
+
+  -- their numbers are drawn
   log_is : x.log ≡ numbers.log
   log_is = go.is.log
 
@@ -424,12 +433,18 @@ module _ (dir : List ℕ) (told2 told3 told4 : Option Story) (found : Found) (nu
       by true same there = omega (arith, same_number number numbers.first same, drawn.manifest, drawn.log)
       by false other there = omega (arith, drawn.tables number there, drawn.manifest, drawn.log)
 
-  pub sound_so : HasWritten dir found.version found.names found.rows numbers.first told2 told3 v n → AreInRange v
-      → IsSoundRecovered dir x
-  sound_so written range = record {
+  pub sound_so : All IsFileName found.names → HasWritten dir found.version found.names found.rows numbers.first told2 told3 v n
+      → AreInRange v → IsSoundRecovered dir x
+  sound_so fit written range = record {
     some = omega (arith, log_is, drawn.log);
     most = omega (arith, log_is, drawn.most);
     last = subst (λ (k : ℕ). k < 2 ^ 56) (sym go.is.sequence_is) small;
+    fit = subst (All IsFileName) (sym go.is.names_are)
+        (All-append IsFileName n (Manifest numbers.manifest ∷ Log numbers.log ∷ []) (written_fit fit written)
+        (All-cons IsFileName (Manifest numbers.manifest) (Log numbers.log ∷ [])
+        (fits_number numbers.manifest (omega (arith, drawn.some, drawn.manifest)) (omega (arith, drawn.most, drawn.log)))
+        (All-cons IsFileName (Log numbers.log) [] (fits_number numbers.log (omega (arith, drawn.log)) drawn.most)
+        (All-nil IsFileName))));
     names = subst (All (IsDrawnName (x.log + 1))) (sym go.is.names_are)
         (All-append (IsDrawnName (x.log + 1)) n (Manifest numbers.manifest ∷ Log numbers.log ∷ [])
         (drawn_before x.log (omega (arith, log_is)) written)

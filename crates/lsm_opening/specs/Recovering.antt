@@ -1,6 +1,7 @@
 -- What an opening of a folder that stands makes of it, and why it is refused.
 use Rattle.std.specs.Prelude.{◌≡◌, ◌≢◌, ◌⊎◌, ℕ, ◌+◌, ◌-◌, ◌^◌, ◌<◌, ◌≤◌, List, [], ◌∷◌, ◌++◌, length, All, Option, Some, Result, IfErr}
 use Rattle.std.specs.FinMap as finmap
+use Rattle.lsm_names.specs.FileNames.{IsFileName}
 use Rattle.lsm_names.specs.declared.file_names.FileName.{FileName}
 use Rattle.lsm_names.specs.declared.file_names.FileName.TheVariants.{Log, Manifest, Table}
 use Rattle.lsm_rows.specs.declared.rows.Row.{Row}
@@ -120,12 +121,13 @@ pub record HasRecoveredFrom (dir : List ℕ) (mid : Story) (told : Option Story)
   pub gone : HasRecovered (state_of found) (state_of story) dir recovery
   pub is : IsRecoveredBy dir recovery r
 
--- On every disk the numbers and the sequence are in range, all names and tables have drawn numbers, and the manifest and the
--- log are the folder's.
+-- On every disk the numbers and the sequence are in range, all names are files' and have drawn numbers, as the tables have, and
+-- the manifest and the log are the folder's.
 pub record IsSoundRecovered (dir : List ℕ) (r : Recovered) : Type 0 where
   pub some : 1 ≤ r.log
   pub most : r.log + 1 < 2 ^ 56
   pub last : r.sequence < 2 ^ 56
+  pub fit : All IsFileName r.names
   pub names : All (IsDrawn (r.log + 1)) r.names
   pub manifest_in : r.manifest.dir ≡ dir
   pub manifest_is : r.manifest.path ≡ path_in dir (Manifest r.manifest.number)

@@ -1,5 +1,6 @@
 //! What is read of a folder that stands.
-ghost use Rattle.std.specs.Prelude.{◌≡◌, ◌≤◌, Some, IsTrue, OnOk, OnErr, IfOk};
+ghost use Rattle.std.specs.Prelude.{◌≡◌, ◌≤◌, Some, All, IsTrue, OnOk, OnErr, IfOk};
+ghost use Rattle.lsm_names.specs.FileNames.{IsFileName};
 ghost use Rattle.lsm_names.specs.Numbers.{is_file_number};
 ghost use Rattle.lsm_disk.specs.State.{Story};
 ghost use Rattle.lsm_recover.specs.Listed.{AreBefore};
@@ -36,6 +37,7 @@ pub fn read_found<D: Disk>(alloc: Global, disk: &mut D, dir: &Folder) -> Result<
     ensures synced { OnErr result ((start : Story) → (D.seen disk.old).told ≡ Some start
         → MayBeSynced start (D.seen disk.new).told) }
     ensures said { IfOk result (λ found. AreSaid found.version) }
+    ensures fit { IfOk result (λ found. All IsFileName found.names) }
     ensures behind { IfOk result (λ found. AreBefore found.next found.names) }
     ensures cause { HasOpenCause dir.now (D.seen disk.old) (D.seen disk.new) result }
 {

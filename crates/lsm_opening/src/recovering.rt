@@ -1,6 +1,7 @@
 //! The opening of a folder that stands, from its reading to the new log.
-ghost use Rattle.std.specs.Prelude.{◌≡◌, ◌∷◌, ◌++◌, [], Some, Ok, IsTrue, IfOk, OnErr, IfErr};
+ghost use Rattle.std.specs.Prelude.{◌≡◌, ◌∷◌, ◌++◌, [], Some, Ok, All, IsTrue, IfOk, OnErr, IfErr};
 ghost use Rattle.std.specs.FinMap as finmap;
+ghost use Rattle.lsm_names.specs.FileNames.{IsFileName};
 ghost use Rattle.lsm_names.specs.Numbers.{is_file_number};
 ghost use Rattle.lsm_names.specs.declared.file_names.FileName.TheVariants.{Table as TableName};
 ghost use Rattle.lsm_disk.specs.State.{Story, state_of};
@@ -73,6 +74,7 @@ fn write_found<D: Disk>(
 ) -> Result<Recovered, OpenError>
     requires drawn { IsDrawn found numbers }
     requires said { AreSaid found.version }
+    requires fit { All IsFileName found.names }
     requires behind { AreBefore found.next found.names }
     ensures sound { IfOk result (IsSoundRecovered dir.now) }
     ensures recovered { IfOk result (λ r. (mid : Story) → HasFound dir.now mid (D.seen disk.old).told found

@@ -1,6 +1,7 @@
 //! Opening a folder on a disk: what a store needs of it to go on.
-ghost use Rattle.std.specs.Prelude.{◌≡◌, ◌+◌, ◌≤◌, Ok, [], IfOk, IfErr, IfSome, length};
+ghost use Rattle.std.specs.Prelude.{◌≡◌, ◌+◌, ◌≤◌, Ok, [], All, IfOk, IfErr, IfSome, length};
 ghost use Rattle.std.specs.FinMap as finmap;
+ghost use Rattle.lsm_names.specs.FileNames.{IsFileName};
 ghost use Rattle.lsm_recover.specs.Answers.{IsRefusedBy, files_now, place_now};
 ghost use Rattle.lsm_recover.specs.Causes.{HasFolderCause};
 ghost use Rattle.lsm_recover.specs.Head.{IsHead};
@@ -75,9 +76,10 @@ pub fn open_folder<D: Disk>(
     ensures found { IfOk result (λ folder. IfSome (D.seen disk.old).told (λ story.
         IsOfFolder dir.now story folder.opened.version folder.log folder.next folder.names)) }
 
-    // On every disk the tables are as edits may say them, and the next number is behind those of
-    // all names.
+    // On every disk the tables are as edits may say them, the names are files', and the next number
+    // is behind those of all names.
     ensures said { IfOk result (λ folder. AreSaid folder.opened.version) }
+    ensures fit { IfOk result (λ folder. All IsFileName folder.names) }
     ensures behind { IfOk result (λ folder. AreBefore folder.next folder.names) }
 
     // On every disk a fault raised the count of faults, and what isn't there or has changed raised

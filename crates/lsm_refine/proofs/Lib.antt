@@ -1,5 +1,6 @@
 pub mod AddedLemmas
 pub mod AmongLemmas
+pub mod BegunManifests
 pub mod BesideLemmas
 pub mod CauseLemmas
 pub mod ChangeLemmas
@@ -35,6 +36,7 @@ pub mod ListedLemmas
 pub mod ListedLogs
 pub mod LivesLemmas
 pub mod LogLemmas
+pub mod MadeLemmas
 pub mod MomentLemmas
 pub mod MoveLemmas
 pub mod NeededLemmas
@@ -82,8 +84,8 @@ pub mod RolledLemmas
 pub mod RoomLemmas
 pub mod SettledLemmas
 pub mod ShownLemmas
-pub mod SyncedLemmas
 pub mod SwitchedLemmas
+pub mod SyncedLemmas
 pub mod TableSteps
 pub mod TableSyncs
 pub mod TableWorkLemmas

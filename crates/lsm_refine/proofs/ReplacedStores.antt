@@ -124,7 +124,7 @@ module _ (dir : List ℕ) (named : is_folder_name dir ≡ true) (number : ℕ) (
     only_still n fit may = ⊎_elim (λ among. inl among) (λ free. inr
         (file_among dir names d x at (path_in dir (Log n)) (log_elsewhere n fit) ∙ free)) may
 
-    replaced_tables : HasTables x dir kept parts.rows
+    pub replaced_tables : HasTables x dir kept parts.rows
     replaced_tables = record {
       each = λ n placed found. let table = is.tables.each n placed found in
           record {
@@ -138,11 +138,11 @@ module _ (dir : List ℕ) (named : is_folder_name dir ≡ true) (number : ℕ) (
           };
     }
 
-    replaced_last : HasLast x dir parts parts.synced
+    pub replaced_last : HasLast x dir parts parts.synced
     replaced_last = wal_among dir named names fits d x at parts.last.number _ _
         (log_elsewhere parts.last.number (last_is d dir kept parts is.logs).1) (is.last (λ same. cc))
 
-    replaced_reads : ((n : ℕ) → kept.log ≤ n → IsFileName (Log n) → All (OpSpares (path_in dir (Log n))) x.pending)
+    pub replaced_reads : ((n : ℕ) → kept.log ≤ n → IsFileName (Log n) → All (OpSpares (path_in dir (Log n))) x.pending)
         → kept.version ≡ tables_after parts.edits → kept.log ≡ log_after parts.edits → IsReadableBut x dir kept parts
     replaced_reads quiet version log = record {
       named = named;
@@ -167,7 +167,7 @@ module _ (dir : List ℕ) (named : is_folder_name dir ≡ true) (number : ℕ) (
     abbrev table_path : Unfinished → List ℕ
     table_path table = path_in dir (Table table.number)
 
-    hand_alone : (begun : Option Begun) (hand : Option FileName) → RestoreBuilds d dir begun hand
+    pub hand_alone : (begun : Option Begun) (hand : Option FileName) → RestoreBuilds d dir begun hand
         → All (IsAlone d) (in_hand begun hand) → All (IsAlone x) (in_hand begun hand)
     hand_alone None hand builds are = All-nil (IsAlone x)
     hand_alone (Some begun) None builds are = All-nil (IsAlone x)

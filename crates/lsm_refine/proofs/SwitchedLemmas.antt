@@ -43,7 +43,7 @@ use Rattle.lsm_refine.proofs.WritingLemmas.{last_byte, last_byte-append}
 -- ---- names of tables, of temporary files, and CURRENT
 
 -- a table's path is no temporary file's
-temp_apart : (dir : List ℕ) (n m : ℕ) → path_in dir (Table n) ≢ path_in dir (Temp m)
+pub temp_apart : (dir : List ℕ) (n m : ℕ) → path_in dir (Table n) ≢ path_in dir (Temp m)
 unfolding spelled
 temp_apart dir n m same =
     let text : six_digits n ++ codes ".sst" ≡ six_digits m ++ codes ".dbtmp" =

@@ -37,7 +37,7 @@ use Rattle.lsm_refine.proofs.PinnedLemmas.{pins_alike}
 use Rattle.lsm_refine.proofs.UnneededLemmas.{unneeded_readable, unneeded_last, unneeded_pins}
 
 -- what is held doesn't go by how far the work came
-held_same : (p : Work) (kept : Kept) (name : FileName) → IsHeld (working_kept p kept) name → IsHeld kept name
+pub held_same : (p : Work) (kept : Kept) (name : FileName) → IsHeld (working_kept p kept) name → IsHeld kept name
 held_same p kept Current held = held
 held_same p kept (Manifest n) held = held
 held_same p kept (Table n) held = held

@@ -1,15 +1,16 @@
 -- What stays where a disk changes at a few names of the store's folder.
-use Rattle.std.specs.Prelude.{◌≡◌, ◌≢◌, ◌⊎◌, ℕ, ◌≤◌, List, [], ◌∷◌, length, All, None}
+use Rattle.std.specs.Prelude.{◌≡◌, ◌≢◌, ◌⊎◌, ℕ, ◌≤◌, true, is_some, List, [], ◌∷◌, length, All, Contains, None}
 use Rattle.std.specs.FinMap as finmap
 use Rattle.lsm_names.specs.declared.file_names.FileName.{FileName}
 use Rattle.lsm_names.specs.declared.file_names.FileName.TheVariants.{Manifest, Temp, Current}
 use Rattle.lsm_disk.specs.Names.{Names, under}
-use Rattle.lsm_disk.specs.State.{FileState, State, names_now}
+use Rattle.lsm_disk.specs.State.{FileState, State, Change, Created, Named, Appended, Synced, Names_synced, Idle, file_at, names_now}
 use Rattle.lsm_disk.specs.Kept.{IsFileNow, OpSpares}
 use Rattle.lsm_disk.specs.Dest.{path_in}
 use Rattle.lsm_refine.specs.Kept.{Kept}
 use Rattle.lsm_refine.specs.Sane.{IsAlone}
-use Rattle.lsm_refine.specs.Beside.{cut_names, NeverFolder}
+use Rattle.lsm_refine.specs.Folders.{ChangesInside}
+use Rattle.lsm_refine.specs.Beside.{cut_names, LeadToFiles, NeverFolder}
 
 -- the path is none of these names'
 abbrev pub IsElsewhere : List ℕ → List FileName → List ℕ → Type 0
@@ -44,3 +45,34 @@ switched_names number temporary = Manifest number ∷ Temp temporary ∷ Current
 -- the manifest has this number and this length, the next file this one, and these names are known
 abbrev pub switched_kept : ℕ → ℕ → ℕ → List FileName → Kept → Kept
 switched_kept number len next known kept = record kept { manifest = number; manifest_len = len; next = next; known = known }
+
+-- ---- new files under a few names
+
+-- The changes that make files under these names of the folder, and fill and sync files that weren't there before: those from
+-- the first new number on. No name moves.
+abbrev pub MakesAmong : List ℕ → List FileName → ℕ → Change → Type 0
+MakesAmong dir names first (Created other) = (name : FileName) × Contains names name × (other ≡ path_in dir name)
+MakesAmong dir names first (Named op) = ⊥
+MakesAmong dir names first (Appended k bytes) = first ≤ k
+MakesAmong dir names first (Synced k) = first ≤ k
+MakesAmong dir names first Names_synced = Unit {0}
+MakesAmong dir names first Idle = Unit {0}
+
+-- From the earlier disk to the later one nothing has changed but at these names, all inside the folder. Names lead to files
+-- that were made.
+pub record MadeAmong (dir : List ℕ) (names : List FileName) (d later : State) : Type 0 where
+  pub among : ChangesAmong dir names d later
+  pub lead : LeadToFiles later
+  pub inside : ChangesInside dir d later
+
+-- the names of the files of a new manifest that CURRENT doesn't name yet: the manifest's and the temporary one
+abbrev pub new_names : ℕ → List FileName
+new_names number = Manifest number ∷ Temp number ∷ []
+
+-- The later names are the earlier ones, and those of these under which a file is now.
+pub record KnowsMade (d : State) (dir : List ℕ) (names old new : List FileName) : Type 0 where
+  pub still : (name : FileName) → Contains old name → Contains new name
+  pub there : (name : FileName) → Contains new name
+      → Contains old name ⊎ (Contains names name × (is_some (file_at d (path_in dir name)) ≡ true))
+  pub all : (name : FileName) → Contains names name → is_some (finmap.get (names_now d) (path_in dir name)) ≡ true
+      → Contains new name

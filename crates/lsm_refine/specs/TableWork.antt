@@ -40,6 +40,10 @@ working_kept work kept = record kept {
   unfinished = work.unfinished;
 }
 
+-- the same work with this next number and these known names
+abbrev pub drawn_work : ℕ → List FileName → Work → Work
+drawn_work next known work = record work { next = next; known = known }
+
 -- the state in which so many numbers are drawn and so many tables begun
 abbrev pub working_state : Seen → Work → State → State
 working_state seen work s = with_counts seen (record s { next = work.next; outputs = work.outputs })

@@ -3,6 +3,7 @@ ghost use Rattle.std.specs.Prelude.{true, false, ◌≡◌, ◌≢◌, ◌⊎◌
 ghost use Rattle.std.specs.FinMap as finmap;
 ghost use Rattle.std.specs.List.{flat_map};
 ghost use Rattle.lsm_io.specs.Causes.{Rose};
+ghost use Rattle.lsm_names.specs.Folders.{is_folder_name};
 ghost use Rattle.lsm_names.specs.FileNames.{IsFileName};
 ghost use Rattle.lsm_names.specs.declared.file_names.FileName.TheVariants.{Table, Manifest, Current};
 ghost use Rattle.lsm_names.specs.declared.file_names.FileName.{FileName};
@@ -42,11 +43,11 @@ ghost use Rattle.lsm_refine.specs.Sane.{IsWholeFile, IsCurrent, Sane, names_held
 ghost use Rattle.lsm_refine.specs.Tied.{Tied};
 ghost use Rattle.lsm_refine.specs.Good.{IsRunning, Good};
 ghost use Rattle.lsm_refine.specs.Moments.{ReadsAsCrashed, ImagesShow};
-ghost use Rattle.lsm_refine.specs.Beside.{WritesAt, IsLone};
-ghost use Rattle.lsm_refine.specs.Among.{switched_kept};
+ghost use Rattle.lsm_refine.specs.Beside.{LeadToFiles, WritesAt, IsLone};
+ghost use Rattle.lsm_refine.specs.Among.{MakesAmong, MadeAmong, KnowsMade, new_names, switched_kept};
 ghost use Rattle.lsm_refine.specs.Grown.{IsDrawn, halted_shown, halted_state};
 ghost use Rattle.lsm_refine.specs.Obsolete.{HasAlso};
-ghost use Rattle.lsm_refine.specs.TableWork.{Work, working_kept, working_state, AreWith};
+ghost use Rattle.lsm_refine.specs.TableWork.{Work, work_of, drawn_work, working_kept, working_state, AreWith};
 ghost use Rattle.lsm_refine.specs.Flushed.{at_top, flush_edit, AddTable, AreFlushed, HasKeys, IsLastOf, rows_with, flushed, EndsFrozen, HasFlushTable, Renewed, IsRenewed, flushed_kept, flushed_state, shown_with};
 ghost use Rattle.lsm_refine.specs.WholeEdits.{AddAll, whole_edit, AreInRange};
 ghost use Rattle.lsm_refine.specs.Naming.{IsReadyFor, HasEither, NamesWhole, ReplacesAt, HasReplaced, MayBeNext};
@@ -384,4 +385,19 @@ pub fn new_edits_show_the_same()
         → (renewed : Renewed) → IsRenewed (state_of good.story) v edits renewed → (len : ℕ)
         → IsReadyFor (state_of good.story) v s (flushed_kept renewed log last len v.kept)
         (flushed edits info.number rows run.parts) }
+{}
+
+/// A new manifest is begun under a number that may be the next: only its file and the temporary one were made, of which CURRENT
+/// names none yet. What a run of such changes leaves is so at each step; and where memory is wanting then, the store is good
+/// that has drawn numbers and knows those of the two that are there.
+pub fn a_begun_manifest_leaves_a_good_store()
+    ensures more { (dir : List ℕ) → is_folder_name dir ≡ true → (names : List FileName) → All IsFileName names → (d : disk.State)
+        → LeadToFiles d → (x : disk.State) → MadeAmong dir names d x → (c : Change) → MakesAmong dir names (length d.files) c
+        → MadeAmong dir names d (after x c) }
+    ensures good { (v : Shown) (s : State) (good : Good v s) (run : IsRunning (state_of good.story) v s)
+        → (number : ℕ) → MayBeNext v.kept number → (x : disk.State) → MadeAmong v.dir (new_names number) (state_of good.story) x
+        → (known : List FileName) → KnowsMade x v.dir (new_names number) v.kept.known known → (n : ℕ)
+        → (seen : Seen) (story : Story) → seen.told ≡ Some story → v.halt ≡ None → state_of story ≡ x
+        → Good (shown_with seen (working_kept (drawn_work n known (work_of v.kept)) v.kept) v)
+        (working_state seen (drawn_work n known (work_of v.kept)) s) }
 {}

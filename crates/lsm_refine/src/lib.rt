@@ -28,11 +28,12 @@ pub use edit_laws::{
     files_of_other_names_stay,
 };
 pub use flush_laws::{
-    a_call_shows_the_state, a_drawn_number_is_new, a_new_manifest_installs_a_table,
-    a_new_manifest_says_the_version, a_sealed_table_is_whole, a_store_may_make_its_files,
-    a_table_is_begun, a_table_is_written, an_appended_edit_installs_a_table,
-    drawn_numbers_are_counted, each_answer_of_a_flush_is_a_step, frozen_rows_become_a_table,
-    new_edits_show_the_same, the_edit_of_a_flush_is_in_the_grammar, the_edit_of_a_flush_is_taken,
+    a_begun_manifest_leaves_a_good_store, a_call_shows_the_state, a_drawn_number_is_new,
+    a_new_manifest_installs_a_table, a_new_manifest_says_the_version, a_sealed_table_is_whole,
+    a_store_may_make_its_files, a_table_is_begun, a_table_is_written,
+    an_appended_edit_installs_a_table, drawn_numbers_are_counted, each_answer_of_a_flush_is_a_step,
+    frozen_rows_become_a_table, new_edits_show_the_same, the_edit_of_a_flush_is_in_the_grammar,
+    the_edit_of_a_flush_is_taken,
 };
 pub use frame_laws::{
     a_file_that_is_not_needed_shows_nothing, a_good_store_runs, a_synced_log_is_durable,

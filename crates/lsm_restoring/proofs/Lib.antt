@@ -1,4 +1,8 @@
 pub mod RestoreSteps
+pub mod RestoreRuns
+pub mod RestoreCalls
+pub mod RestoreFills
+pub mod RestoreEnds
 pub mod RestoredChanges
 pub mod RestoredImages
 pub mod RestoredReads

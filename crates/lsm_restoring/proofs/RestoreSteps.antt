@@ -1,5 +1,5 @@
 -- Each exit of a restore's calls: a step of the abstract store, and the store good behind it.
-use Rattle.std.specs.Prelude.{◌≡◌, ◌≢◌, ℕ, ◌≤◌, Bool, true, false, ◌||◌, is_some, List, [], ◌∷◌, ◌++◌, All, Option, Some, None, Ok, Err}
+use Rattle.std.specs.Prelude.{◌≡◌, ◌≢◌, ℕ, ◌≤◌, Bool, true, false, ◌||◌, is_some, List, [], ◌∷◌, ◌++◌, Option, Some, None, Ok, Err}
 use Rattle.std.proofs.Common.{⊎_elim, inl, inr, refl, sym, ap, subst, ◌∙◌}
 use Rattle.std.proofs.lemmas.List.Elements.{All-nil}
 use Rattle.std.specs.Str.{bytes_eq}
@@ -18,6 +18,7 @@ use Rattle.lsm_disk.specs.declared.calls.DiskCall.{DiskCall}
 use Rattle.lsm_disk.specs.declared.calls.DiskCall.TheVariants as call
 use Rattle.lsm_disk.specs.declared.calls.Halt.{Halt}
 use Rattle.lsm_disk.specs.declared.dest.DestError.TheVariants.{Fault, Halted, Exists, NoMemory}
+use Rattle.lsm_disk.proofs.Files.{same_some}
 use Rattle.lsm_disk.proofs.Named.{name_now}
 use Rattle.lsm_folder.proofs.NameLemmas.{same_text, equal_texts}
 use Rattle.lsm_model.specs.declared.states.State.{State}
@@ -29,15 +30,14 @@ use Rattle.lsm_model.specs.Halting.{IsMet, exactly}
 use Rattle.lsm_model.specs.Moves.{Becomes}
 use Rattle.lsm_model.specs.Destination.{unfinished, BeginsFolder, FillsFolder, FinishesFolder, fill_calls}
 use Rattle.lsm_model.proofs.PinLemmas.{folder_new, folder_stays, folder_placed}
-use Rattle.lsm_refine.specs.Kept.{KeptPin, Shown}
+use Rattle.lsm_refine.specs.Kept.{Shown}
 use Rattle.lsm_refine.specs.Sane.{IsAlone, HasBegun, BuildsFolder, RestoreBuilds}
 use Rattle.lsm_refine.specs.Folders.{folder_reading}
 use Rattle.lsm_refine.specs.Good.{IsRunning, Good, with_counts, stopped}
 use Rattle.lsm_refine.specs.Grown.{halted_shown}
-use Rattle.lsm_refine.specs.Within.{IsNamedJob}
 use Rattle.lsm_refine.proofs.UnchangedLemmas.{unchanged_good, halted_good}
 use Rattle.lsm_refine.proofs.WritingLemmas.{runs}
-use Rattle.lsm_restoring.specs.Restoring.{ChangesOnly, LacksCurrentNow, MayRestore, IsRestoring, GoesTo, CountsRise, folder_begun, restored_shown, restored_state}
+use Rattle.lsm_restoring.specs.Restoring.{ChangesOnly, LacksCurrentNow, MayRestore, IsRestoring, GoesTo, CountsRise, HasNamedJobs, folder_begun, restored_shown, restored_state}
 use Rattle.lsm_restoring.proofs.RestoredStores.{restored_good, failed_good}
 use Rattle.lsm_restoring.proofs.RestoredReads.{names_lack, reads_still, reads_new, reads_placed}
 use Rattle.lsm_restoring.proofs.RestoredWhole.{built_sure}
@@ -54,7 +54,7 @@ among_met own at (other ∷ others) is = ⊎_elim
 there_more : (folders : List FolderRead) (new : FolderRead) (begun : Option (List ℕ)) → IsThere folders begun
     → IsThere (folders ++ new ∷ []) begun
 there_more folders new None is = tt
-there_more folders new (Some dir) is = (is.0, folder_stays dir folders is.0 new is.1)
+there_more folders new (Some dir) is = (is.0, folder_stays dir folders is.0 new is.1, is.2)
 
 none_found : (found : Option FolderRead) (place : Option Node) → is_some found ≡ is_some place → place ≡ None → found ≡ None
 none_found None place same is = refl
@@ -148,7 +148,7 @@ module _ (v : Shown) (s : State) (good : Good v s) where
   -- ---- a folder is begun
 
   module _ (none : v.halt ≡ None) (dir : List ℕ) (named : is_folder_name dir ≡ true)
-      (jobs : All (λ (pin : KeptPin). IsNamedJob pin.job) v.kept.pins) (free : finmap.get (names_now d) dir ≡ None) where
+      (jobs : HasNamedJobs v) (free : finmap.get (names_now d) dir ≡ None) where
     abbrev run : IsRunning d v s
     run = runs v s good none
 
@@ -197,14 +197,14 @@ module _ (v : Shown) (s : State) (good : Good v s) where
           record
               { rest = refl; faults = (becomes seen rise).faults; refusals = (becomes seen rise).refusals },
         ),
-        restored_good v s good run dir begin_may seen story told only (Some (just_begun dir)) None
+        restored_good v s good none dir begin_may seen story told only (Some (just_begun dir)) None
             (record {
               builds = record { named = named; apart = apart; start = d; parts = []; has = is };
               alone = All-nil (IsAlone (state_of story));
             })
             folders (reads_new dir named d (state_of story) only.inside s apart_own good.folders seen
             (Some dir) unlisted lacks)
-            (unfinished dir, folder_new dir s.folders (unfinished dir) unlisted (same_text dir)) none,
+            (unfinished dir, folder_new dir s.folders (unfinished dir) unlisted (same_text dir), refl),
       )
 
       -- the call failed, and the folder is there
@@ -229,7 +229,7 @@ module _ (v : Shown) (s : State) (good : Good v s) where
                 },
               ),
             ),
-            failed_good v s good run dir begin_may seen story told only none at folders
+            failed_good v s good none dir begin_may seen story told only at folders
                 (reads_new dir named d (state_of story) only.inside s apart_own good.folders seen None unlisted lacks)
                 (there_more s.folders (unfinished dir) (folder_begun v.kept.begun)
                 (subst (IsThere s.folders) (sym good.kept.begun) good.counted.begun)),
@@ -252,18 +252,26 @@ module _ (v : Shown) (s : State) (good : Good v s) where
     pub begun_lacks : LacksCurrentNow begun.folder d
     begun_lacks = has_lacks v.kept.hand builds.start builds.parts builds.has
 
-    pub begun_may : ((entry : FolderRead) → folder_of begun.folder s.folders ≡ Some entry → entry.sure ≡ false)
-        → All (λ (pin : KeptPin). IsNamedJob pin.job) v.kept.pins → MayRestore begun.folder v s
-    begun_may unsure jobs = record { named = builds.named; apart = builds.apart; unsure = unsure; jobs = jobs }
-
     state_begun : s.begun ≡ Some begun.folder
     state_begun = sym good.kept.begun ∙ ap folder_begun is_begun
 
     begun_there : IsThere s.folders (Some begun.folder)
     begun_there = subst (IsThere s.folders) state_begun good.counted.begun
 
-    module _ (may : MayRestore begun.folder v s) (seen : Seen) (rise : CountsRise v seen) (story : Story)
-        (told : seen.told ≡ Some story) (only : ChangesOnly begun.folder d (state_of story)) where
+    pub begun_may : HasNamedJobs v → MayRestore begun.folder v s
+    begun_may jobs = record {
+      named = builds.named;
+      apart = builds.apart;
+      unsure = λ entry found. ap (λ (e : FolderRead). e.sure)
+          (same_some entry begun_there.0 (sym found ∙ begun_there.1)) ∙ begun_there.2;
+      jobs = jobs;
+    }
+
+    module _ (jobs : HasNamedJobs v) (seen : Seen) (rise : CountsRise v seen)
+        (story : Story) (told : seen.told ≡ Some story) (only : ChangesOnly begun.folder d (state_of story)) where
+      abbrev may : MayRestore begun.folder v s
+      may = begun_may jobs
+
       own_apart : begun.folder ≢ s.own
       own_apart is = may.apart (is ∙ sym good.kept.own)
 
@@ -272,13 +280,13 @@ module _ (v : Shown) (s : State) (good : Good v s) where
         still_restored : (later : Begun) (hand : Option FileName) → later.folder ≡ begun.folder
             → IsRestoring (state_of story) v.dir (Some later) hand
             → Good (restored_shown seen (Some later) hand v) (restored_state seen s.folders (Some later.folder) s)
-        still_restored later hand same restores = restored_good v s good going begun.folder may seen story told only
+        still_restored later hand same restores = restored_good v s good none begun.folder may seen story told only
             (Some later) hand
             restores s.folders
             (reads_still begun.folder may.named d (state_of story) only.inside s own_apart good.folders seen
             (Some later.folder)
             begun_lacks lacks may.unsure)
-            (subst (λ (dir : List ℕ). IsThere s.folders (Some dir)) (sym same) begun_there) none
+            (subst (λ (dir : List ℕ). IsThere s.folders (Some dir)) (sym same) begun_there)
 
         still_becomes : (later : Begun) → later.folder ≡ begun.folder
             → Becomes s (restored_state seen s.folders (Some later.folder) s)
@@ -325,7 +333,7 @@ module _ (v : Shown) (s : State) (good : Good v s) where
                   };
                 },
               ),
-              failed_good v s good going begun.folder may seen story told only none at s.folders
+              failed_good v s good none begun.folder may seen story told only at s.folders
                   (reads_still begun.folder may.named d (state_of story) only.inside s own_apart good.folders seen None
                   begun_lacks lacks may.unsure)
                   (subst (IsThere s.folders) (sym good.kept.begun) good.counted.begun),
@@ -354,11 +362,11 @@ module _ (v : Shown) (s : State) (good : Good v s) where
                 rest = record { rest = refl; faults = (becomes seen rise).faults; refusals = (becomes seen rise).refusals };
               },
             ),
-            restored_good v s good going begun.folder may seen story told only None None
+            restored_good v s good none begun.folder may seen story told only None None
                 (record { builds = refl; alone = All-nil (IsAlone (state_of story)) }) folders
                 (reads_placed begun.folder may.named d (state_of story) only.inside s own_apart good.folders seen None true
                 (ap is_some (name_now (state_of story) begun.folder (Some Folder_node) built.stands))
-                (λ sure. built_sure begun.folder may.named parts (state_of story) built true)) tt none,
+                (λ sure. built_sure begun.folder may.named parts (state_of story) built true)) tt,
           )
 
       -- whatever a fault left of the folder
@@ -386,11 +394,11 @@ module _ (v : Shown) (s : State) (good : Good v s) where
                 });
               },
             ),
-            failed_good v s good going begun.folder may seen story told only none at folders
+            failed_good v s good none begun.folder may seen story told only at folders
                 (reads_placed begun.folder may.named d (state_of story) only.inside s own_apart good.folders seen None false
                 there (λ sure. absurd (not_true sure)))
                 (subst (IsThere folders) (sym (ap folder_begun is_begun))
-                (entry false, folder_placed (entry false) s.folders)),
+                (entry false, folder_placed (entry false) s.folders, refl)),
           )
         where
           not_true : false ≡ true → ⊥

@@ -1,6 +1,6 @@
 -- While a restore goes on, each image reads as a crash leaves the state, which doesn't list the restore's folder as sure.
 use Rattle.std.specs.Prelude.{◌≡◌, ◌≢◌, ◌⊎◌, ℕ, Bool, true, false, cond, is_some, List, [], ◌∷◌, length, All, Option, Some, None, Err}
-use Rattle.std.proofs.Common.{⊎_elim, refl, sym, ap, ◌∙◌, arith}
+use Rattle.std.proofs.Common.{⊎_elim, refl, sym, ap, subst, ◌∙◌, arith}
 use Rattle.std.proofs.lemmas.List.Elements.{All-nil, All-cons, All-head, All-tail}
 use Rattle.std.specs.Str.{bytes_eq}
 use Rattle.std.specs.FinMap as finmap
@@ -33,6 +33,7 @@ use Rattle.lsm_refine.proofs.CrashLemmas.{front_reads}
 use Rattle.lsm_refine.proofs.GoodLemmas.{good_image}
 use Rattle.lsm_refine.proofs.OneCall.{call_shows}
 use Rattle.lsm_refine.proofs.UnneededLemmas.{shows_first}
+use Rattle.lsm_refine.proofs.WritingLemmas.{runs}
 use Rattle.lsm_refine.proofs.WithinRuns.{folders_within, stands_within}
 use Rattle.lsm_restoring.specs.Restoring.{ChangesOnly, MayRestore}
 
@@ -194,8 +195,10 @@ went_images : {start : Story} {told : Option Story} (q : Change → Type 0) (P R
 went_images q P R shows J went = went_kept R (λ x. Unit {0}) (λ x c kind is. tt)
     (λ x t is image has. shows x t image has) J tt went
 
-module _ (v : Shown) (s : State) (good : Good v s) (folder : List ℕ) (may : MayRestore folder v s)
-    (own : is_folder_name s.own ≡ true) where
+module _ (v : Shown) (s : State) (good : Good v s) (none : v.halt ≡ None) (folder : List ℕ) (may : MayRestore folder v s) where
+  own : is_folder_name s.own ≡ true
+  own = subst (λ (dir : List ℕ). is_folder_name dir ≡ true) good.kept.own (runs v s good none).sane.current.named
+
   apart_own : folder ≢ s.own
   apart_own is = may.apart (is ∙ sym good.kept.own)
 

@@ -25,6 +25,7 @@ use Rattle.lsm_refine.specs.Grown.{halted_shown}
 use Rattle.lsm_refine.specs.Within.{SaneOutside}
 use Rattle.lsm_refine.proofs.PinnedLemmas.{pins_alike}
 use Rattle.lsm_refine.proofs.UnchangedLemmas.{halted_good}
+use Rattle.lsm_refine.proofs.WritingLemmas.{runs}
 use Rattle.lsm_refine.proofs.WithinStores.{sane_is, sane_again, sane_within, pins_within, clear_within, jobs_within}
 use Rattle.lsm_restoring.specs.Restoring.{ChangesOnly, MayRestore, IsRestoring, folder_begun, restored_shown, restored_state}
 
@@ -94,9 +95,12 @@ module _ (begun : Option Begun) (hand : Option FileName) (kept : Kept) where
 
 -- ---- a store that goes on
 
-module _ (v : Shown) (s : State) (good : Good v s) (run : IsRunning (state_of good.story) v s) (folder : List ℕ)
+module _ (v : Shown) (s : State) (good : Good v s) (none : v.halt ≡ None) (folder : List ℕ)
     (may : MayRestore folder v s) (seen : Seen) (story : Story) (told : seen.told ≡ Some story)
     (only : ChangesOnly folder (state_of good.story) (state_of story)) where
+  abbrev run : IsRunning (state_of good.story) v s
+  run = runs v s good none
+
   abbrev d : disk.State
   d = state_of good.story
 
@@ -149,8 +153,8 @@ module _ (v : Shown) (s : State) (good : Good v s) (run : IsRunning (state_of go
           certain = run.certain;
         }
 
-    pub restored_good : v.halt ≡ None → Good w t
-    restored_good none = record {
+    pub restored_good : Good w t
+    restored_good = record {
       story = story;
       told = told;
       mode = subst (λ (h : Option Halt). IsInMode h x w t) (sym none) restored_running;
@@ -248,16 +252,16 @@ module _ (w : Shown) (t : State) (good : Good w t) (first : Halt) (halts : w.hal
   }
 
 -- A disk call of a restore failed, and may have changed the folder. The store is halted, and keeps what it kept of the restore.
-module _ (v : Shown) (s : State) (good : Good v s) (run : IsRunning (state_of good.story) v s) (folder : List ℕ)
+module _ (v : Shown) (s : State) (good : Good v s) (none : v.halt ≡ None) (folder : List ℕ)
     (may : MayRestore folder v s) (seen : Seen) (story : Story) (told : seen.told ≡ Some story)
-    (only : ChangesOnly folder (state_of good.story) (state_of story)) (none : v.halt ≡ None) (at : Halt)
+    (only : ChangesOnly folder (state_of good.story) (state_of story)) (at : Halt)
     (folders : List FolderRead) (read : FoldersRead (state_of story) (restored_state seen folders None s))
     (there : IsThere folders (folder_begun v.kept.begun)) where
   pub failed_good : Good (halted_shown seen at v) (stopped at (restored_state seen folders (folder_begun v.kept.begun) s))
   unfolding restored_good
   failed_good =
-      let idle = restored_good v s good run folder may seen story told only None None
-      (record { builds = refl; alone = All-nil _ }) folders read tt none in
+      let idle = restored_good v s good none folder may seen story told only None None
+      (record { builds = refl; alone = All-nil _ }) folders read tt in
       let w : Shown = restored_shown seen None None v in
       let halted = halted_good w (record w { halt = Some at }) (restored_state seen folders None s) at idle (record {
         later = story;

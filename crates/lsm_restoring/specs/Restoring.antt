@@ -32,13 +32,17 @@ pub record LacksCurrentNow (folder : List ℕ) (d : disk.State) : Type 0 where
 
 -- ---- of a store
 
+-- the folders of its checkpoints under way have folders' names
+abbrev pub HasNamedJobs : Shown → Type 0
+HasNamedJobs v = All (λ (pin : KeptPin). IsNamedJob pin.job) v.kept.pins
+
 -- A restore may go on in the folder: it has a folder's name, it isn't the store's own, and a crash may take it away, so that
 -- the state doesn't list it as sure. The folders of checkpoints under way have folders' names.
 pub record MayRestore (folder : List ℕ) (v : Shown) (s : State) : Type 0 where
   pub named : is_folder_name folder ≡ true
   pub apart : folder ≢ v.dir
   pub unsure : (entry : FolderRead) → folder_of folder s.folders ≡ Some entry → entry.sure ≡ false
-  pub jobs : All (λ (pin : KeptPin). IsNamedJob pin.job) v.kept.pins
+  pub jobs : HasNamedJobs v
 
 -- the folder that is begun
 abbrev pub folder_begun : Option Begun → Option (List ℕ)

@@ -19,7 +19,7 @@ ghost use Rattle.lsm_model.specs.declared.states.FolderRead.{FolderRead};
 ghost use Rattle.lsm_model.specs.Counts.{IsThere};
 ghost use Rattle.lsm_refine.specs.Kept.{Shown};
 ghost use Rattle.lsm_refine.specs.Folders.{folder_reading, IsSure, FoldersRead, ChangesInside};
-ghost use Rattle.lsm_refine.specs.Good.{IsRunning, Good, stopped};
+ghost use Rattle.lsm_refine.specs.Good.{Good, stopped};
 ghost use Rattle.lsm_refine.specs.Grown.{halted_shown};
 ghost use Rattle.lsm_refine.specs.Moments.{ReadsAsCrashed, ImagesShow};
 ghost use Rattle.lsm_restoring.specs.Restoring.{ChangesOnly, LacksCurrentNow, MayRestore, IsRestoring, folder_begun, restored_shown, restored_state};
@@ -27,16 +27,16 @@ ghost use Rattle.lsm_restoring.specs.Restoring.{ChangesOnly, LacksCurrentNow, Ma
 /// A good store whose disk changed within a restore's folder alone is good for the state that lists the folders as they read
 /// now. Where a disk call failed on the way it is halted, and good too.
 pub fn a_restore_leaves_a_good_store()
-    ensures goes_on { (v : Shown) (s : State) (good : Good v s) → IsRunning (state_of good.story) v s → (folder : List ℕ)
+    ensures goes_on { (v : Shown) (s : State) (good : Good v s) → v.halt ≡ None → (folder : List ℕ)
         → MayRestore folder v s → (seen : Seen) (story : Story) → seen.told ≡ Some story
         → ChangesOnly folder (state_of good.story) (state_of story) → (begun : Option Begun) (hand : Option FileName)
         → IsRestoring (state_of story) v.dir begun hand → (folders : List FolderRead)
         → FoldersRead (state_of story) (restored_state seen folders (folder_begun begun) s) → IsThere folders
         (folder_begun begun)
-        → v.halt ≡ None → Good (restored_shown seen begun hand v) (restored_state seen folders (folder_begun begun) s) }
-    ensures failed { (v : Shown) (s : State) (good : Good v s) → IsRunning (state_of good.story) v s → (folder : List ℕ)
+        → Good (restored_shown seen begun hand v) (restored_state seen folders (folder_begun begun) s) }
+    ensures failed { (v : Shown) (s : State) (good : Good v s) → v.halt ≡ None → (folder : List ℕ)
         → MayRestore folder v s → (seen : Seen) (story : Story) → seen.told ≡ Some story
-        → ChangesOnly folder (state_of good.story) (state_of story) → v.halt ≡ None → (at : Halt) (folders : List FolderRead)
+        → ChangesOnly folder (state_of good.story) (state_of story) → (at : Halt) (folders : List FolderRead)
         → FoldersRead (state_of story) (restored_state seen folders None s) → IsThere folders (folder_begun v.kept.begun)
         → Good (halted_shown seen at v) (stopped at (restored_state seen folders (folder_begun v.kept.begun) s)) }
 {}
@@ -57,18 +57,16 @@ pub fn a_restores_folder_reads_so()
 /// While all that changes is within a restore's folder, each image of the disk reads as a crash leaves the state before; so do
 /// all images of a call whose changes are such, whatever the state behind it.
 pub fn images_of_a_restore_show_the_state()
-    ensures image { (v : Shown) (s : State) (good : Good v s) (folder : List ℕ) → MayRestore folder v s
-        → is_folder_name s.own ≡ true
-        → (x : disk.State) → ChangesInside folder (state_of good.story) x → (u : Tree) → IsImage x u → ReadsAsCrashed s u }
-    ensures run { (v : Shown) (s : State) (good : Good v s) (folder : List ℕ) → MayRestore folder v s
-        → is_folder_name s.own ≡ true
-        → (told : Option Story)
+    ensures image { (v : Shown) (s : State) (good : Good v s) → v.halt ≡ None → (folder : List ℕ)
+        → MayRestore folder v s → (x : disk.State) → ChangesInside folder (state_of good.story) x
+        → (u : Tree) → IsImage x u → ReadsAsCrashed s u }
+    ensures run { (v : Shown) (s : State) (good : Good v s) → v.halt ≡ None → (folder : List ℕ)
+        → MayRestore folder v s → (told : Option Story)
         → Went good.story told (λ (c : Change). Unit {0})
         (λ (x : disk.State) (t : Tree). ChangesOnly folder (state_of good.story) x) (λ (x : disk.State). Unit {0})
         → (later : State) → ImagesShow good.story told s later }
-    ensures call { (v : Shown) (s : State) (good : Good v s) (folder : List ℕ) → MayRestore folder v s
-        → is_folder_name s.own ≡ true
-        → (c : disk.State → Change) → ChangesOnly folder (state_of good.story)
+    ensures call { (v : Shown) (s : State) (good : Good v s) → v.halt ≡ None → (folder : List ℕ)
+        → MayRestore folder v s → (c : disk.State → Change) → ChangesOnly folder (state_of good.story)
         (after (state_of good.story) (c (state_of good.story)))
         → (told : Option Story) → (told ≡ v.disk.told) ⊎ Makes v.disk.told c told → (later : State)
         → ImagesShow good.story told s later }

@@ -269,4 +269,7 @@ module _ (x : Inner) (inside : IsInside x) (mid : Seen) (handed : HasHandedBack 
           drawn = inside.drawn;
           most = inside.most;
           below = inside.below;
+          fit = inside.fit;
+          flush = inside.flush;
+          jobs = inside.jobs;
         }

@@ -1,6 +1,7 @@
 -- Calls on pins and disables, at each exit.
-use Rattle.std.specs.Prelude.{◌≡◌, ℕ, ◌+◌, ◌<◌, ◌≤◌, Bool, true, false, if◌then◌else◌, Option, Some, None, Result, Ok, Err}
+use Rattle.std.specs.Prelude.{◌≡◌, ℕ, ◌+◌, ◌<◌, ◌≤◌, ◌==◌, Bool, true, false, if◌then◌else◌, List, [], ◌∷◌, All, Option, Some, None, Result, Ok, Err}
 use Rattle.std.proofs.Common.{refl, sym, ap, subst, ◌∙◌, arith}
+use Rattle.std.proofs.lemmas.List.Elements.{All-nil, All-cons, All-head, All-tail}
 use Rattle.lsm_model.specs.declared.events.Event.TheVariants as event
 use Rattle.lsm_model.specs.declared.replies.Reply.TheVariants as reply
 use Rattle.lsm_model.specs.declared.errors.StoreError.{StoreError}
@@ -8,9 +9,10 @@ use Rattle.lsm_model.specs.declared.errors.StoreError.TheVariants as error
 use Rattle.lsm_model.specs.Causes.{is_none}
 use Rattle.lsm_refine.specs.Kept.{Job, KeptPin, Kept, Shown}
 use Rattle.lsm_refine.specs.Calls.{is_own_kept, unpinned_shown, disabled_shown}
-use Rattle.lsm_refine.specs.Caused.{kept_pin_of, unpinned, IsOwnPin}
+use Rattle.lsm_refine.specs.Caused.{kept_pin_of, without_kept, unpinned, IsOwnPin}
+use Rattle.lsm_refine.specs.Within.{IsNamedJob}
 use Rattle.lsm_refine.proofs.UnpinSteps.{unpin_ok, unpin_unknown, disable_ok, disable_full, enable_ok, enable_none}
-use Rattle.lsm_store.specs.Inside.{Inner, shown_of}
+use Rattle.lsm_store.specs.Inside.{CanFlush, Inner, IsInside, shown_of}
 use Rattle.lsm_store.proofs.Calls.{IsCall, nothing_called, undisturbed, unpin_caused, disable_caused, enable_caused}
 
 abbrev pub IsUnpin : ℕ → Result (Unit {0}) StoreError → Shown → Shown → Type 0
@@ -38,6 +40,48 @@ not_own number kept other own =
     let clash : false ≡ true = sym other ∙ ap (λ (o : Option KeptPin). is_own_kept o) own.1
     ∙ ap (λ (job : Option Job). is_none job) own.2 in
     cc
+
+-- ---- a pin less
+
+module _ (P : KeptPin → Type 0) (number : ℕ) where
+  one_without : (pin : KeptPin) (pins : List KeptPin) → P pin → All P pins → (t : Bool)
+      → All P (if t then pins else pin ∷ pins)
+  one_without pin pins one are true = are
+  one_without pin pins one are false = All-cons P pin pins one are
+
+  all_without : (pins : List KeptPin) → All P pins → All P (without_kept number pins)
+  all_without [] are = All-nil P
+  all_without (pin ∷ pins) are = one_without pin (without_kept number pins) (All-head P pin pins are)
+      (all_without pins (All-tail P pin pins are)) (pin.number == number)
+
+-- what is so of every store is so without the pin
+pub unpinned_inside : (x : Inner) → IsInside x → (pin : ℕ) (own : Bool) (catalog : Kept)
+    → catalog ≡ (if own then unpinned pin x.catalog else x.catalog) → IsInside (record x { catalog = catalog })
+unpinned_inside x inside pin own catalog kept = record {
+  path_is = inside.path_is;
+  manifest_in = inside.manifest_in;
+  manifest_is = inside.manifest_is;
+  before = inside.before;
+  small = inside.small;
+  one = inside.one;
+  drawn = inside.drawn;
+  most = inside.most;
+  below = inside.below;
+  jobs = subst (λ (k : Kept). All Named k.pins) (sym kept) (by_own own);
+  fit = inside.fit;
+  flush = subst (λ (k : Kept). CanFlush x.next x.log x.active x.frozen k.version) (sym kept) (still own);
+}
+  where
+    Named : KeptPin → Type 0
+    Named one = IsNamedJob one.job
+
+    still : (is : Bool) → CanFlush x.next x.log x.active x.frozen (if is then unpinned pin x.catalog else x.catalog).version
+    still true = inside.flush
+    still false = inside.flush
+
+    by_own : (is : Bool) → All Named (if is then unpinned pin x.catalog else x.catalog).pins
+    by_own true = all_without Named pin x.catalog.pins inside.jobs
+    by_own false = inside.jobs
 
 module _ (x : Inner) where
   abbrev v : Shown

@@ -54,7 +54,10 @@ use Rattle.lsm_refine.proofs.SyncedLemmas.{syncing, log_synced, sync_writes, syn
 use Rattle.lsm_refine.proofs.WriteSteps.{Steps}
 use Rattle.lsm_refine.proofs.WritingLemmas.{runs, beside}
 use Rattle.lsm_store.specs.Answering.{halt_by, halt_of, error_by, error_of}
-use Rattle.lsm_store.specs.Inside.{Inner, IsInside, older_logs, shown_of}
+use Rattle.lsm_flush.specs.declared.frozen.Held.{Held}
+use Rattle.lsm_flush.specs.declared.frozen.Held.TheVariants.{Rows}
+use Rattle.lsm_flush.specs.Frozen.{rows_of}
+use Rattle.lsm_store.specs.Inside.{Inner, IsInside, older_logs, flushing_of, unfinished_of, shown_of}
 use Rattle.lsm_store.specs.Syncing.{IsNotSynced}
 use Rattle.lsm_store.proofs.Calls.{IsCall, nothing_called, freeze_caused, never_some, no_fault}
 use Rattle.lsm_store.proofs.Logs.{left_by, log_here, sync_refused}
@@ -78,10 +81,10 @@ no_removal a is same = ⊎_elim
     names_differ : call.SyncNames ≢ call.RemoveFolder
     names_differ clash = cc
 
-file_number : (n : ℕ) → 1 ≤ n → n < 2 ^ 56 - 1 → IsFileName (Log n)
+pub file_number : (n : ℕ) → 1 ≤ n → n < 2 ^ 56 - 1 → IsFileName (Log n)
 file_number n least most = grind (arith, nat_tests)
 
-also_pushed : (name : FileName) (names : List FileName) → HasAlso name names (names ++ name ∷ [])
+pub also_pushed : (name : FileName) (names : List FileName) → HasAlso name names (names ++ name ∷ [])
 also_pushed name names other = (
   λ among. ⊎_elim (λ old. inr old) (λ same. inl (sym same)) (Contains-push_cases names name other among),
   λ is. ⊎_elim
@@ -113,14 +116,14 @@ module _ (x : Inner) (inside : IsInside x) where
       (freeze_caused v v (Err (error.Halted first)) (is, refl))
 
   module _ (none : x.halt ≡ None) where
-    pub idle_freeze : (x.active ≡ []) ⊎ (x.frozen ≢ []) → IsFreeze (Ok false) (shown_of x) (shown_of x)
+    pub idle_freeze : (x.active ≡ []) ⊎ (rows_of x.frozen ≢ []) → IsFreeze (Ok false) (shown_of x) (shown_of x)
     idle_freeze cannot =
         nothing_called (λ s. s) event.Freeze (reply.Freeze (Ok false)) v
         (λ s good. ⊎_elim (freeze_nothing v s good (runs v s good none) none)
         (freeze_no_room v s good (runs v s good none) none) cannot)
         (freeze_caused v v (Ok false) (none, cannot, refl))
 
-    module _ (some : x.active ≢ []) (no_frozen : x.frozen ≡ []) where
+    module _ (some : x.active ≢ []) (no_frozen : rows_of x.frozen ≡ []) where
       pub full_freeze : 2 ^ 56 - 1 ≤ x.next → IsFreeze (Err (error.NumbersFull x.next)) (shown_of x) (shown_of x)
       full_freeze full =
           nothing_called (λ s. s) event.Freeze (reply.Freeze (Err (error.NumbersFull x.next))) v
@@ -353,9 +356,9 @@ module _ (x : Inner) (inside : IsInside x) where
                 (λ told y. IsMade (state_of told) (path_in x.home (Log x.next)) result y) s (makes s good) (went result made)
 
             pub ok_freeze : (T : Type 0) (value : T) (log : wal.Shown) (known : List FileName) (len : ℕ)
-                (fresh active frozen : List Row)
+                (fresh active : List Row) (frozen : Held)
                 → Made (Ok value) → log ≡ record { path = new; len = 0 } → known ≡ x.known ++ Log x.next ∷ []
-                → len ≡ x.wal.len → active ≡ fresh → fresh ≡ [] → frozen ≡ x.active
+                → len ≡ x.wal.len → active ≡ fresh → fresh ≡ [] → frozen ≡ Rows x.active → x.frozen ≡ Rows []
                 → IsFreeze (Ok true) (shown_of x) (shown_of (record x {
                   disk = seen;
                   wal = log;
@@ -367,16 +370,18 @@ module _ (x : Inner) (inside : IsInside x) where
                   next = x.next + 1;
                   known = known;
                 }))
-            ok_freeze T value log known len fresh active frozen made log_is known_is len_is active_is fresh_is frozen_is =
+            ok_freeze T value log known len fresh active frozen made log_is known_is len_is active_is fresh_is frozen_is idle =
                 subst (λ (n : ℕ). IsFreeze (Ok true) v (frozen_as log known n active frozen)) (sym len_is)
                 (subst (λ (rows : List Row). IsFreeze (Ok true) v (frozen_as log known x.wal.len rows frozen))
                 (sym (active_is ∙ fresh_is))
-                (subst (λ (rows : List Row). IsFreeze (Ok true) v (frozen_as log known x.wal.len [] rows)) (sym frozen_is)
-                (subst (λ (l : wal.Shown). IsFreeze (Ok true) v (after l known (x.log ∷ x.next ∷ []))) (sym log_is)
+                (subst (λ (held : Held). IsFreeze (Ok true) v (frozen_as log known x.wal.len [] held)) (sym frozen_is)
+                (subst (λ (held : Held). IsFreeze (Ok true) v (after held log known (x.log ∷ x.next ∷ []))) idle
+                (subst (λ (l : wal.Shown). IsFreeze (Ok true) v (after x.frozen l known (x.log ∷ x.next ∷ []))) (sym log_is)
                 (subst (λ (names : List FileName). IsFreeze (Ok true) v
-                (after (record { path = new; len = 0 }) names (x.log ∷ x.next ∷ []))) (sym known_is)
+                (after x.frozen (record { path = new; len = 0 }) names (x.log ∷ x.next ∷ []))) (sym known_is)
                 (subst (λ (older : List ℕ). IsFreeze (Ok true) v
-                (after (record { path = new; len = 0 }) (x.known ++ Log x.next ∷ []) ((older ++ x.log ∷ []) ++ x.next ∷ [])))
+                (after x.frozen (record { path = new; len = 0 }) (x.known ++ Log x.next ∷ [])
+                ((older ++ x.log ∷ []) ++ x.next ∷ [])))
                 (ap older_logs (inside.one no_frozen)) (record {
                   step = λ s good.
                       let gone = went (Ok value) made (story s good) (tells s good) in
@@ -398,9 +403,9 @@ module _ (x : Inner) (inside : IsInside x) where
                       },
                     );
                   };
-                }))))))
+                })))))))
               where
-                frozen_as : wal.Shown → List FileName → ℕ → List Row → List Row → Shown
+                frozen_as : wal.Shown → List FileName → ℕ → List Row → Held → Shown
                 frozen_as l names n rows others = shown_of (record x {
                   disk = seen;
                   wal = l;
@@ -413,8 +418,8 @@ module _ (x : Inner) (inside : IsInside x) where
                   known = names;
                 })
 
-                after : wal.Shown → List FileName → List ℕ → Shown
-                after l names logs = record {
+                after : Held → wal.Shown → List FileName → List ℕ → Shown
+                after held l names logs = record {
                   disk = seen;
                   dir = x.home;
                   kept = record v.kept {
@@ -425,13 +430,15 @@ module _ (x : Inner) (inside : IsInside x) where
                     older_len = x.wal.len;
                     next = x.next + 1;
                     known = names;
+                    flushing = flushing_of held;
+                    unfinished = unfinished_of held;
                   };
                   halt = x.halt;
                 }
 
                 frozen_now : Shown
                 frozen_now =
-                    after (record { path = new; len = 0 }) (x.known ++ Log x.next ∷ [])
+                    after x.frozen (record { path = new; len = 0 }) (x.known ++ Log x.next ∷ [])
                     ((older_logs x.older ++ x.log ∷ []) ++ x.next ∷ [])
 
             module _ (r : DiskRefusal) (made : Made {T = Unit {0}} (Err r))

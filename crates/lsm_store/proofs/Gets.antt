@@ -29,6 +29,7 @@ use Rattle.lsm_core.specs.Searching.{FindsNewest}
 use Rattle.lsm_core.proofs.NewestLemmas.{behind_none, behind_older}
 use Rattle.lsm_core.proofs.SearchLemmas.{all_of_tables}
 use Rattle.lsm_core.proofs.ReadLemmas.{reads_whole, searchable}
+use Rattle.lsm_flush.specs.Frozen as frozen
 use Rattle.lsm_store.specs.Inside.{Inner, shown_of}
 use Rattle.lsm_store.specs.Reading.{row_or, value_in_memory}
 use Rattle.lsm_store.proofs.Calls.{IsCall, same_shows, nothing_called}
@@ -163,7 +164,7 @@ module _ (x : Inner) (key : List ℕ) where
 
   -- a row in memory has the key
   pub known_get : (value : Option (List ℕ)) (o : Option (Option (List ℕ))) → o ≡ Some value → o ≡ value_in_memory x.active
-      x.frozen key
+      (frozen.rows_of x.frozen) key
       → IsGet key (Ok value) v v
   known_get value o some is =
       nothing_called (λ s. s) (event.Get key) (reply.Get (Ok value)) v
@@ -179,7 +180,7 @@ module _ (x : Inner) (key : List ℕ) where
       (get_caused v v key (Err error.NoMemory) (tt, (None, loses_none)))
 
   -- tables were looked into
-  module _ (o : Option (Option (List ℕ))) (none : o ≡ None) (kept_is : o ≡ value_in_memory x.active x.frozen key) (seen :
+  module _ (o : Option (Option (List ℕ))) (none : o ≡ None) (kept_is : o ≡ value_in_memory x.active (frozen.rows_of x.frozen) key) (seen :
       Seen) (catalog : Kept) where
     abbrev later : Inner
     later = record x { disk = seen; catalog = catalog }

@@ -96,7 +96,7 @@ module _ (dir : List ℕ) (named : is_folder_name dir ≡ true) (short : length 
 
     pub beside_made : (b : Begun) → b ≡ new_begun parts next → Begins dir old new (Ok b)
     beside_made b b_is = subst (λ (x : Begun). Begins dir old new (Ok x)) (sym b_is) (record {
-      sound = begun_sound dir next names parts is numbered.before;
+      sound = begun_sound dir next names parts is numbered.some numbered.before;
       leads = leads;
       keeps = keeps (Ok parts) went;
       by = opened_since dir old at new cause.faults_later cause.refusals_later (Ok (new_begun parts next)) (record {

@@ -3,6 +3,7 @@ use Rattle.std.specs.Prelude.{◌≡◌, ℕ, ◌+◌, ◌^◌, ◌<◌, ◌≤�
 use Rattle.std.proofs.Common.{sym, ap, subst, ◌∙◌}
 use Rattle.std.specs.FinMap as finmap
 use Rattle.std.specs.Ordering.{nat_cmp}
+use Rattle.lsm_names.specs.FileNames.{IsFileName}
 use Rattle.lsm_names.specs.Folders.{is_folder_name}
 use Rattle.lsm_names.specs.declared.file_names.FileName.{FileName}
 use Rattle.lsm_names.specs.declared.file_names.FileName.TheVariants.{Log, Manifest}
@@ -77,6 +78,7 @@ begun_by_sound dir r b by sound = record {
   some = subst (λ (n : ℕ). 1 ≤ n) (sym by.log) sound.some;
   most = subst (λ (n : ℕ). n + 1 < 2 ^ 56) (sym by.log) sound.most;
   last = subst (λ (n : ℕ). n < 2 ^ 56) (sym by.sequence) sound.last;
+  fit = subst (All IsFileName) (sym by.known) sound.fit;
   names = subst (λ (names : List FileName). All (IsDrawn (b.log + 1)) names) (sym by.known)
       (subst (λ (n : ℕ). All (IsDrawn (n + 1)) r.names) (sym by.log) sound.names);
   manifest_in = ap (λ (x : manifest.Shown). x.dir) by.manifest ∙ sound.manifest_in;

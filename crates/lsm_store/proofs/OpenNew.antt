@@ -5,7 +5,7 @@ use Rattle.std.proofs.lemmas.List.Elements.{All-nil}
 use Rattle.std.specs.FinMap as finmap
 use Rattle.std.specs.Ordering.{nat_cmp}
 use Rattle.lsm_names.specs.Folders.{is_folder_name}
-use Rattle.lsm_names.specs.FileNames.{spelled}
+use Rattle.lsm_names.specs.FileNames.{IsFileName, spelled}
 use Rattle.lsm_names.specs.declared.file_names.FileName.{FileName}
 use Rattle.lsm_names.specs.declared.file_names.FileName.TheVariants.{Log, Manifest}
 use Rattle.lsm_names.proofs.FolderLemmas.{folder_is_component, folder_has_bytes}
@@ -77,13 +77,14 @@ module _ (dir : List ℕ) (m : ℕ) (beside : List FileName) (parts : NewParts) 
   no_table : {A : Type 0} (number : ℕ) (placed : Placed) → finmap.get empty_version number ≡ Some placed → A
   no_table number placed is = let clash : None ≡ Some placed = sym (finmap.get-empty nat_cmp number) ∙ is in absurd (cc)
 
-  pub begun_sound : All (IsBefore m) beside → IsSoundBegun dir (new_begun parts m)
-  begun_sound before =
-      let inside = new_inside (record { told = None; faults = 0; refusals = 0 }) dir m beside is.small before in
+  pub begun_sound : 1 ≤ m → All (IsBefore m) beside → IsSoundBegun dir (new_begun parts m)
+  begun_sound least before =
+      let inside = new_inside (record { told = None; faults = 0; refusals = 0 }) dir m beside least is.small before in
       record {
         some = omega arith;
         most = omega (arith, is.small);
         last = omega arith;
+        fit = subst (All IsFileName) (sym is.known) inside.fit;
         names = subst (λ (names : List FileName). All (IsDrawn ((m + 1) + 1)) names) (sym is.known)
             (subst (λ (n : ℕ). All (IsDrawn n) (new_names m beside)) (sym next_is) inside.below);
         manifest_in = ap (λ (x : manifest.Shown). x.dir) is.files.manifest;
@@ -253,7 +254,7 @@ module _ (dir : List ℕ) (named : is_folder_name dir ≡ true) (short : length 
 
       pub anew_made : (b : Begun) → b ≡ new_begun parts 1 → Begins dir old new (Ok b)
       anew_made b b_is = subst (λ (x : Begun). Begins dir old new (Ok x)) (sym b_is) (record {
-        sound = begun_sound dir 1 [] parts is (All-nil (IsBefore 1));
+        sound = begun_sound dir 1 [] parts is (omega arith) (All-nil (IsBefore 1));
         leads = leads;
         keeps = keeps (Ok parts) went new_is;
         by = opened_since dir old at new cause.faults_later cause.refusals_later (Ok (new_begun parts 1)) (record {

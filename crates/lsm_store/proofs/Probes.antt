@@ -24,6 +24,7 @@ use Rattle.lsm_core.specs.Looking.{Leveled, AreOpened}
 use Rattle.lsm_core.specs.Reading.{Keeps, IsOutside, ToldTables, Reads, seen_of}
 use Rattle.lsm_core.specs.Searching.{looked_at}
 use Rattle.lsm_core.proofs.ReadLemmas.{reads_whole, searchable}
+use Rattle.lsm_flush.specs.Frozen as frozen
 use Rattle.lsm_store.specs.Inside.{Inner, shown_of}
 use Rattle.lsm_store.specs.Reading.{value_in_memory, is_at_hand, TellsProbe, Probed, HasClosed}
 use Rattle.lsm_store.specs.declared.probing.Probe.TheVariants.{Known, Look}
@@ -65,13 +66,13 @@ module _ (V : Type 0) (x : Inner) (key : List ℕ) where
 
   -- a row in memory has the key
   pub known_probe : (value : Option (List ℕ)) (o : Option (Option (List ℕ))) → o ≡ Some value → o ≡ value_in_memory x.active
-      x.frozen key
+      (frozen.rows_of x.frozen) key
       → Probed {V = V} key v v (Ok (Known value))
   known_probe value o some is =
       at_once value (ap (λ (m : Option (Option (List ℕ))). is_some m || (finmap.len v.kept.version == 0)) (sym some ∙ is))
       (λ s good. value_known v s good key value (sym is ∙ some))
 
-  module _ (o : Option (Option (List ℕ))) (none : o ≡ None) (is : o ≡ value_in_memory x.active x.frozen key) where
+  module _ (o : Option (Option (List ℕ))) (none : o ≡ None) (is : o ≡ value_in_memory x.active (frozen.rows_of x.frozen) key) where
     in_no_memory : value_in_memory v.kept.active v.kept.frozen key ≡ None
     in_no_memory = sym is ∙ none
 

@@ -22,6 +22,7 @@ use Rattle.lsm_refine.proofs.ReadSteps.{scan_ok, scan_fault, scan_wanting}
 use Rattle.lsm_refine.proofs.WriteSteps.{Steps}
 use Rattle.lsm_core.specs.Reading.{IsOutside, ToldTables, Reads, seen_of}
 use Rattle.lsm_core.proofs.ReadLemmas.{reads_whole, reads_wanting}
+use Rattle.lsm_flush.specs.Frozen.{rows_of}
 use Rattle.lsm_store.specs.Inside.{Inner, shown_of}
 use Rattle.lsm_store.proofs.Calls.{IsCall, same_shows}
 
@@ -45,7 +46,7 @@ module _ (x : Inner) (seen : Seen) (catalog : Kept) where
   Finds rows all = all ≡ rows_of_tables x.catalog.version rows
 
   abbrev FindsPairs : (ℕ → List Row) → Contents → Type 0
-  FindsPairs rows pairs = pairs ≡ contents_of (rows_of_tables x.catalog.version rows ++ (x.frozen ++ x.active))
+  FindsPairs rows pairs = pairs ≡ contents_of (rows_of_tables x.catalog.version rows ++ (rows_of x.frozen ++ x.active))
 
   whole : (r : Result (List Row) StoreError) → Reads Finds (seen_of x.disk x.home x.catalog) (seen_of seen x.home catalog) r
       → catalog ≡ record x.catalog { views = catalog.views } → Reads Finds v w r
@@ -62,14 +63,14 @@ module _ (x : Inner) (seen : Seen) (catalog : Kept) where
   same_good reads s good = reads.unchanged (good_shows v s good).rows (told_good s good)
 
   -- all rows stand for the pairs
-  found : (rows : List Row) (pairs : Contents) → pairs ≡ contents_of (rows ++ (x.frozen ++ x.active))
+  found : (rows : List Row) (pairs : Contents) → pairs ≡ contents_of (rows ++ (rows_of x.frozen ++ x.active))
       → Reads Finds (seen_of x.disk x.home x.catalog) (seen_of seen x.home catalog) (Ok rows) → IsScan (Ok pairs) v w
   found rows pairs is reads =
       let all = whole (Ok rows) reads reads.by.kept in
       record {
         step = λ s good.
             scan_ok v w s good (same_good all s good) refl all.counts.faults all.counts.refusals pairs
-            (is ∙ ap (λ (l : List Row). contents_of (l ++ (x.frozen ++ x.active)))
+            (is ∙ ap (λ (l : List Row). contents_of (l ++ (rows_of x.frozen ++ x.active)))
             (all.exact (good_shows v s good).rows (told_good s good))
             ∙ (good_shows v s good).shown);
         images = λ s good. same_shows v s s good seen.told all.told;
@@ -96,9 +97,12 @@ module _ (x : Inner) (seen : Seen) (catalog : Kept) where
 
   -- each exit, at what contracts saw of the store before
   module _ (before : Shown) (same : v ≡ before) where
-    pub found_scan : (rows : List Row) (pairs : Contents) → pairs ≡ contents_of (rows ++ (x.frozen ++ x.active))
+    pub found_scan : (rows frozen : List Row) (pairs : Contents) → pairs ≡ contents_of (rows ++ (frozen ++ x.active))
+        → frozen ≡ rows_of x.frozen
         → Reads Finds (seen_of x.disk x.home x.catalog) (seen_of seen x.home catalog) (Ok rows) → IsScan (Ok pairs) before w
-    found_scan rows pairs is reads = subst (λ (u : Shown). IsScan (Ok pairs) u w) same (found rows pairs is reads)
+    found_scan rows frozen pairs is held reads =
+        subst (λ (u : Shown). IsScan (Ok pairs) u w) same
+        (found rows pairs (is ∙ ap (λ (l : List Row). contents_of (rows ++ (l ++ x.active))) held) reads)
 
     pub refused_scan : (e : StoreError) → Reads Finds (seen_of x.disk x.home x.catalog) (seen_of seen x.home catalog) (Err e)
         → IsScan (Err e) before w

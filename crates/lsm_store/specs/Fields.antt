@@ -1,5 +1,6 @@
 -- What a store holds, out of its fields.
 use Rattle.lsm_disk.specs.State.{Seen}
+use Rattle.lsm_dest.specs.FolderDests.{begun_in, hand_in}
 use Rattle.lsm_store.specs.declared.store.Store.TheInside.{Inside}
 use Rattle.lsm_store.specs.Inside.{Inner}
 
@@ -20,4 +21,6 @@ inner seen s = record {
   halt = s.halt;
   manifest = s.manifest;
   catalog = s.catalog;
+  begun = begun_in s.restoring;
+  hand = hand_in s.restoring;
 }

@@ -1,7 +1,10 @@
 pub mod Answering
 pub mod Closing
+pub mod Deleting
 pub mod Fields
+pub mod FlushParts
 pub mod Inside
+pub mod Making
 pub mod NewStores
 pub mod Opening
 pub mod Reading

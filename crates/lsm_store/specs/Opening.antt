@@ -2,6 +2,7 @@
 use Rattle.std.specs.Prelude.{◌≡◌, ℕ, ◌+◌, ◌-◌, ◌^◌, ◌<◌, ◌≤◌, List, [], All, Option, Some, None, Result, IfOk, IfErr}
 use Rattle.std.specs.FinMap as finmap
 use Rattle.lsm_io.specs.Causes.{Rose}
+use Rattle.lsm_names.specs.FileNames.{IsFileName}
 use Rattle.lsm_names.specs.declared.file_names.FileName.TheVariants.{Log, Manifest}
 use Rattle.lsm_disk.specs.State.{Seen, Story, Names_synced, after, state_of}
 use Rattle.lsm_disk.specs.Goes.{Went}
@@ -26,6 +27,7 @@ use Rattle.lsm_refine.specs.Grown.{IsDrawn}
 use Rattle.lsm_refine.specs.Pins.{AreClearable}
 use Rattle.lsm_refine.specs.WholeEdits.{AreInRange}
 use Rattle.lsm_refine.specs.Openings.{IsFound, IsKeptImage, IsNewStore, OpensTo, HasOpened, LosesNothing}
+use Rattle.lsm_flush.specs.declared.frozen.Held.TheVariants.{Rows}
 use Rattle.lsm_store.specs.Inside.{Inner, shown_of}
 use Rattle.lsm_store.specs.Answering.{error_of}
 use Rattle.lsm_store.specs.Showing.{folder_error}
@@ -44,24 +46,27 @@ begun_inner seen dir b = record {
   older = None;
   older_len = 0;
   active = [];
-  frozen = [];
+  frozen = Rows [];
   sequence = b.sequence;
   next = b.log + 1;
   known = b.known.items;
   halt = None;
   manifest = b.manifest;
   catalog = kept_with b.version finmap.empty b.log b.sequence [] 0 0;
+  begun = None;
+  hand = None;
 }
 
 abbrev pub begun_store : Seen → List ℕ → Begun → Shown
 begun_store seen dir b = shown_of (begun_inner seen dir b)
 
--- numbers, tables and the sequence are in range, names and tables have drawn numbers, and the manifest and the log are the
--- folder's
+-- numbers, tables and the sequence are in range, names are files' and have drawn numbers, as tables have, and the manifest and
+-- the log are the folder's
 pub record IsSoundBegun (dir : List ℕ) (b : Begun) : Type 0 where
   pub some : 1 ≤ b.log
   pub most : b.log + 1 < 2 ^ 56
   pub last : b.sequence < 2 ^ 56
+  pub fit : All IsFileName b.known.items
   pub names : All (IsDrawn (b.log + 1)) b.known.items
   pub manifest_in : b.manifest.dir ≡ dir
   pub manifest_is : b.manifest.path ≡ path_in dir (Manifest b.manifest.number)

@@ -54,6 +54,7 @@ impl<D: Disk> Store<D> {
             halt,
             manifest: _manifest,
             catalog,
+            restoring: _restoring,
         } = self;
         close_tables(catalog, &mut disk);
         if let Some(first) = halt {
@@ -92,6 +93,7 @@ impl<D: Disk> Store<D> {
             halt: _,
             manifest: _manifest,
             catalog: _catalog,
+            restoring: _restoring,
         } = self;
         disk
     }

@@ -68,7 +68,8 @@ impl<D: Disk> Store<D> {
                 self.wal = wal;
                 self.log = self.next;
                 self.next += 1;
-                self.frozen = replace(&mut self.active, MemTable::new(self.alloc));
+                let rows = replace(&mut self.active, MemTable::new(self.alloc));
+                self.frozen.hold(rows);
                 Ok(true)
             }
             Err(refused) => {

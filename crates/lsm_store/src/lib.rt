@@ -3,13 +3,18 @@
 #![tactic(auto)]
 
 mod closing;
+mod deleting;
+mod flushing;
 mod freezing;
+mod installing;
+mod making;
 mod opening;
 mod opening_new;
 mod pinning;
 mod probing;
 mod reading;
 mod refused;
+mod restoring;
 mod scanning;
 mod showing;
 mod store;
@@ -18,6 +23,6 @@ mod telling;
 
 pub use closing::OpenRefusal;
 pub use lsm_core::{Tables, look};
-pub use lsm_model::StoreError;
+pub use lsm_model::{Deleted, Flushed, StoreError};
 pub use probing::Probe;
 pub use store::Store;

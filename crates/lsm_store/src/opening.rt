@@ -11,7 +11,9 @@ use crate::refused::error_of;
 use crate::showing::folder_error;
 use crate::store::Store;
 use lsm_core::{Catalog, OpenTables};
+use lsm_dest::Restoring;
 use lsm_disk::{Disk, DiskCall};
+use lsm_flush::Frozen;
 use lsm_manifest::Manifest;
 use lsm_memtable::MemTable;
 use lsm_model::StoreError;
@@ -108,13 +110,14 @@ fn store_of<D: Disk>(
         older: None,
         older_len: 0,
         active: MemTable::new(alloc),
-        frozen: MemTable::new(alloc),
+        frozen: Frozen::new(MemTable::new(alloc)),
         sequence,
         next: log + 1,
         known,
         halt: None,
         manifest,
         catalog: Catalog::new(alloc, version, tables, log, sequence),
+        restoring: Restoring::new(alloc),
     }
 }
 

@@ -25,7 +25,7 @@ impl<D: Disk> Store<D> {
     pub fn probe(&mut self, key: &[u8]) -> Result<Probe<D::View>, StoreError>
         ensures { Probed key.now self.old self.new result }
     {
-        match copy_in_memory(self.alloc, &self.active, &self.frozen, key) {
+        match copy_in_memory(self.alloc, &self.active, self.frozen.rows(), key) {
             Ok(Some(value)) => Ok(Probe::Known(value)),
             Ok(None) => {
                 if self.catalog.has_no_table() {

@@ -74,7 +74,7 @@ impl<D: Disk> Store<D> {
         ensures leads { (start : State) (steps : List Made) → Leads start steps self.old
             → Leads start (steps ++ Asked (event.Get key.now) (reply.Get result) ∷ []) self.new }
     {
-        match copy_in_memory(self.alloc, &self.active, &self.frozen, key) {
+        match copy_in_memory(self.alloc, &self.active, self.frozen.rows(), key) {
             Ok(Some(value)) => Ok(value),
             Ok(None) => {
                 match find_row(

@@ -65,7 +65,7 @@ impl<D: Disk> Store<D> {
             → Leads start (steps ++ Asked event.Scan (reply.Scan result) ∷ []) self.new }
     {
         match read_rows(self.alloc, &mut self.disk, &self.home, &mut self.catalog) {
-            Ok(rows) => match pairs_with(self.alloc, rows, &self.frozen, &self.active) {
+            Ok(rows) => match pairs_with(self.alloc, rows, self.frozen.rows(), &self.active) {
                 Ok(pairs) => Ok(pairs),
                 Err(NoMemory) => Err(StoreError::NoMemory),
             },

@@ -12,7 +12,9 @@ ghost use Rattle.lsm_refine.specs.Caused.{Caused};
 use crate::refused::{error_of, halt_of};
 use crate::syncing::sync_file;
 use lsm_core::Catalog;
+use lsm_dest::Restoring;
 use lsm_disk::{Disk, Halt};
+use lsm_flush::Frozen;
 use lsm_manifest::Manifest;
 use lsm_memtable::MemTable;
 use lsm_model::StoreError;
@@ -44,13 +46,14 @@ pub struct Store<D: Disk> {
     pub(crate) older: Option<u64>,
     pub(crate) older_len: u64,
     pub(crate) active: MemTable,
-    pub(crate) frozen: MemTable,
+    pub(crate) frozen: Frozen,
     pub(crate) sequence: u64,
     pub(crate) next: u64,
     pub(crate) known: Vec<FileName>,
     pub(crate) halt: Option<Halt>,
     pub(crate) manifest: Manifest,
     pub(crate) catalog: Catalog<D::View>,
+    pub(crate) restoring: Restoring,
 }
 
 impl<D: Disk> Model for Store<D> {

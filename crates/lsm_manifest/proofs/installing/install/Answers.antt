@@ -3,6 +3,7 @@ use Rattle.std.specs.Prelude.{Ok, Err}
 use Rattle.lsm_manifest.proofs.Answering.{new_answers, temporary_answers, led_answers}
 use Rattle.lsm_manifest.proofs.Placed.{exit_new, exit_temporary, exit_led}
 use Rattle.lsm_manifest.proofs.Settling.{tells_lawful}
+use Rattle.lsm_manifest.proofs.Wanting.{wants_new, wants_temporary, wants_lead}
 use Rattle.lsm_manifest.proofs.installing.install.Goals as goal
 
 pub returns-in-Err-clause-went : goal.returns-in-Err-clause-went
@@ -61,3 +62,20 @@ returns-in-Err-lead-clause-answer g c dir number is new temporary path =
     c.in_default.ensures.answer c.in_default.ensures.went _
     (Err c.in-Err-lead.refused) c.in_default-write_new.ensures.answer c.in_default-write_new.ensures.went
     c.in-Err-lead.ensures.answer
+
+pub returns-in-Err-clause-wanting : goal.returns-in-Err-clause-wanting
+returns-in-Err-clause-wanting g c dir number is new temporary path =
+    wants_new dir number is c.args.places.now.manifest c.args.places.now.temporary c.args.places.now.current c.args.text.now
+    c.args.current.now new temporary path c.in-Err.refused c.in-Err.ensures.wanting
+
+pub returns-in-Err-write_new-clause-wanting : goal.returns-in-Err-write_new-clause-wanting
+returns-in-Err-write_new-clause-wanting g c dir number is new temporary path =
+    wants_temporary dir number is c.args.places.now.manifest c.args.places.now.temporary c.args.places.now.current
+    c.args.text.now c.args.current.now new temporary path c.in_default.ensures.went c.in-Err-write_new.refused
+    c.in-Err-write_new.ensures.wanting
+
+pub returns-in-Err-lead-clause-wanting : goal.returns-in-Err-lead-clause-wanting
+returns-in-Err-lead-clause-wanting g c dir number is new temporary path =
+    wants_lead dir number is c.args.places.now.manifest c.args.places.now.temporary c.args.places.now.current
+    c.args.text.now c.args.current.now new temporary path c.in_default.ensures.went c.in_default-write_new.ensures.went
+    c.in-Err-lead.refused c.in-Err-lead.ensures.wanting

@@ -2,6 +2,7 @@
 use Rattle.std.specs.Prelude.{Ok}
 use Rattle.lsm_manifest.proofs.Answering.{names_answers, switch_answers, rename_answers, last_answers}
 use Rattle.lsm_manifest.proofs.Leading.{refused_names, refused_rename, refused_last, all_led}
+use Rattle.lsm_manifest.proofs.Wanting.{rename_wants, sync_wants}
 use Rattle.lsm_manifest.proofs.installing.lead.Goals as goal
 
 pub returns-in-Err-clause-went : goal.returns-in-Err-clause-went
@@ -59,3 +60,18 @@ returns-in-Err-sync_names-clause-answer g c =
 pub returns-clause-answer : goal.returns-clause-answer
 returns-clause-answer g c = switch_answers c.args.temporary.now c.args.path.now _ _ (Ok
     (tt {0})) c.in_default.ensures.did c.in_default-rename.ensures.answer
+
+pub returns-in-Err-clause-wanting : goal.returns-in-Err-clause-wanting
+returns-in-Err-clause-wanting g c =
+    sync_wants c.refusal.result c.in-Err.why c.refusal.ensures.why c.in-Err.ensures.memory
+
+pub returns-in-Err-rename-clause-wanting : goal.returns-in-Err-rename-clause-wanting
+returns-in-Err-rename-clause-wanting g c =
+    rename_wants c.args.path.now c.refusal-in-Err-rename.result c.in-Err-rename.why c.refusal-in-Err-rename.ensures.path
+    c.refusal-in-Err-rename.ensures.why _ _ _ _ c.in-Err-rename.ensures.did c.refusal-in-Err-rename.ensures.call
+    c.in_default.ensures.did
+
+pub returns-in-Err-sync_names-clause-wanting : goal.returns-in-Err-sync_names-clause-wanting
+returns-in-Err-sync_names-clause-wanting g c =
+    sync_wants c.refusal-in-Err-sync_names.result c.in-Err-sync_names.why c.refusal-in-Err-sync_names.ensures.why
+    c.in-Err-sync_names.ensures.memory

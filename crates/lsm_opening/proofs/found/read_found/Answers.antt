@@ -1,5 +1,6 @@
-use Rattle.std.specs.Prelude.{◌≡◌, ℕ, List, Ok, IfSome}
+use Rattle.std.specs.Prelude.{◌≡◌, ℕ, List, All, Ok, IfSome}
 use Rattle.std.proofs.Common.{inr, sym, subst, ◌∙◌}
+use Rattle.lsm_names.specs.FileNames.{IsFileName}
 use Rattle.lsm_disk.specs.State.{Story}
 use Rattle.lsm_recover.specs.Answers.{place_now}
 use Rattle.lsm_recover.specs.Opening.{opening}
@@ -35,6 +36,10 @@ returns-in-Ok-open_folder-clause-found g c start is =
 pub returns-in-Ok-open_folder-clause-said : goal.returns-in-Ok-open_folder-clause-said
 returns-in-Ok-open_folder-clause-said g c =
     subst (λ (found : Found). AreSaid found.version) (sym c.close_found.ensures.found) c.in-Ok-open_folder.ensures.said
+
+pub returns-in-Ok-open_folder-clause-fit : goal.returns-in-Ok-open_folder-clause-fit
+returns-in-Ok-open_folder-clause-fit g c =
+    subst (λ (found : Found). All IsFileName found.names) (sym c.close_found.ensures.found) c.in-Ok-open_folder.ensures.fit
 
 pub returns-in-Err-open_folder-clause-synced : goal.returns-in-Err-open_folder-clause-synced
 returns-in-Err-open_folder-clause-synced g c start is =

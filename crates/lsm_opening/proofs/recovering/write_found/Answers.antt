@@ -18,7 +18,7 @@ returns-in-Ok-install-clause-sound g c =
     let logged = c.in-Ok.logged in
     sound_so c.args.dir.now (seen c.args.disk.now).told (seen c.write_logs.new.disk).told (seen c.install.new.disk).told
     c.args.found c.args.numbers c.requires.drawn c.requires.behind c.if-sequence-ge-SEQUENCES.false logged.version logged.names
-    c.in-Ok-install.recovered c.in-Ok-install.ensures.gone_on c.in-Ok.ensures.written c.in-Ok.ensures.range
+    c.in-Ok-install.recovered c.in-Ok-install.ensures.gone_on c.requires.fit c.in-Ok.ensures.written c.in-Ok.ensures.range
 
 pub write_logs-requires-clause-range : goal.write_logs-requires-clause-range
 write_logs-requires-clause-range g c κs within = said_range c.args.found.version c.requires.said

@@ -1,7 +1,9 @@
 -- Each exit, by what the parts before it told.
+use Rattle.std.specs.Prelude.{All}
 use Rattle.std.proofs.Common.{◌≡◌, ◌∙◌, ℕ, Ok, refl, sym, subst}
 use Rattle.std.specs.FinMap as finmap
 use Rattle.std.proofs.lemmas.Result.{err_from_is_err_and}
+use Rattle.lsm_names.specs.FileNames.{IsFileName}
 use Rattle.lsm_disk.specs.State.{Story}
 use Rattle.lsm_recover.specs.Answers.{IsRefusedBy, place_now, files_now}
 use Rattle.lsm_recover.specs.Head.{edits_there, IsHead}
@@ -9,6 +11,7 @@ use Rattle.lsm_recover.specs.Opening.{AreOpenOn, IsOpenBehind, opening}
 use Rattle.lsm_recover.specs.Shown.{IsOfFolder}
 use Rattle.lsm_recover.specs.Listed.{AreBefore, names_in, next_number}
 use Rattle.lsm_recover.proofs.BehindLemmas.{names_before}
+use Rattle.lsm_recover.proofs.EntryLemmas.{names_fit}
 use Rattle.lsm_recover.proofs.OpenLemmas.{where_told, told_that}
 use Rattle.lsm_recover.proofs.FolderLemmas.{of_folder}
 use Rattle.lsm_recover.proofs.OpeningLemmas.{head_refuses_opening, only_these_open, next_told}
@@ -81,3 +84,6 @@ returns-in-Ok-clause-behind g c =
     subst (λ (n : ℕ). AreBefore n names) (sym is)
     (subst (AreBefore (next_number head.stated.next head.listing)) (sym c.in-Ok.ensures.names)
     (names_before head.stated.next head.listing))
+
+pub returns-in-Ok-clause-fit : goal.returns-in-Ok-clause-fit
+returns-in-Ok-clause-fit g c = subst (All IsFileName) (sym c.in-Ok.ensures.names) (names_fit c.in_ok-head.head.listing)

@@ -9,8 +9,9 @@ close-requires g c = ends c.args.self.now c.requires.sound c.requires.end c.requ
 
 pub returns-in-Ok-drops_of-clause-ok : goal.returns-in-Ok-drops_of-clause-ok
 returns-in-Ok-drops_of-clause-ok g c =
-    ended g.P.TablePort.went c.args.port.now c.close.new.port c.args.self.now c.close.new.self c.take_adds.new.self _
-    c.requires.end c.close.ensures.level c.in-Ok.ensures.closed (c.in-Ok-drops_of.ensures ∙ c.as_slice.ensures) refl refl refl
+    ended g.P.TablePort.went g.P.TablePort.told c.args.port.now c.close.new.port c.args.self.now c.close.new.self
+    c.take_adds.new.self _ c.close.ensures.port.rows c.requires.end c.close.ensures.level c.in-Ok.ensures.closed
+    (c.in-Ok-drops_of.ensures ∙ c.as_slice.ensures) refl refl refl
     (λ over start calls written led w. c.in-Ok.ensures.goes over true start calls written (λ _. refl)
     (may_end c.args.self.now.outputs.stage) led w) c.take_adds.ensures.whole
 
@@ -21,7 +22,8 @@ returns-in-Ok-drops_of-clause-sound g c =
 
 pub returns-in-Err-drops_of-clause-err : goal.returns-in-Err-drops_of-clause-err
 returns-in-Err-drops_of-clause-err g c =
-    closed_moved g.P.TablePort.went c.args.port.now c.close.new.port c.args.self.now None c.close.new.self c.requires.end
+    closed_moved g.P.TablePort.went g.P.TablePort.told c.args.port.now c.close.new.port c.args.self.now None
+    c.close.ensures.port.rows c.close.new.self c.requires.end
     c.close.ensures.level
     (λ over start calls written led w. c.in-Ok.ensures.goes over true start calls written (λ _. refl)
     (may_end c.args.self.now.outputs.stage) led w)
@@ -32,9 +34,10 @@ returns-in-Err-drops_of-clause-sound g c =
 
 pub returns-in-Err-clause-err : goal.returns-in-Err-clause-err
 returns-in-Err-clause-err g c =
-    moved_refused g.P.TablePort.went (Unit {0}) Edit c.args.port.now c.close.new.port c.args.self.now
+    moved_refused g.P.TablePort.went g.P.TablePort.told (Unit {0}) Edit c.args.port.now c.close.new.port c.args.self.now
     (record c.args.self.now { outputs = c.close.new.self }) c.in-Err.fault 0
-    (closed_moved g.P.TablePort.went c.args.port.now c.close.new.port c.args.self.now _ c.close.new.self c.requires.end
+    (closed_moved g.P.TablePort.went g.P.TablePort.told c.args.port.now c.close.new.port c.args.self.now _
+    c.close.ensures.port.rows c.close.new.self c.requires.end
     c.close.ensures.level
     (λ over start calls written led w. c.in-Err.ensures.goes over true start calls written (λ _. refl)
     (may_end c.args.self.now.outputs.stage) led w))

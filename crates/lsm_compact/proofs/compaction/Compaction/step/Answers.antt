@@ -9,7 +9,7 @@ use Rattle.lsm_compact.proofs.compaction.Compaction.step.Goals as goal
 
 pub loop-row-init : goal.loop-row-init
 loop-row-init g c = record {
-  moved = still g.P.TablePort.went c.args.port.now c.args.self.now;
+  moved = still g.P.TablePort.went g.P.TablePort.told c.args.port.now c.args.self.now;
   sound = c.requires;
   port = unmoved g.P.TablePort.told g.P.TablePort.faults c.args.port.now;
 }
@@ -19,9 +19,11 @@ returns-in-Ok-clause-ok g c =
     let below = c.loop-row-test.true in (
       (c.loop-row._row + 0) + 0,
       omega (arith, below),
-      moved_end g.P.TablePort.went c.args.port.now c.merge_one.new.port c.finish.new.port c.args.self.now c.merge_one.new.self
+      moved_end g.P.TablePort.went g.P.TablePort.told c.args.port.now c.merge_one.new.port c.finish.new.port c.args.self.now
+          c.merge_one.new.self
           c.finish.new.self c.in-Ok.edit (c.loop-row._row + 0) 0 ((c.loop-row._row + 0) + 0) refl
-          (moved_then g.P.TablePort.went c.args.port.now c.loop-row.port c.merge_one.new.port c.args.self.now c.loop-row.self
+          (moved_then g.P.TablePort.went g.P.TablePort.told c.args.port.now c.loop-row.port c.merge_one.new.port
+          c.args.self.now c.loop-row.self
           c.merge_one.new.self None c.loop-row._row _ (c.loop-row._row + 0)
           (ap (λ (b : Bool). c.loop-row._row + merged_in (Ok b)) c.in-Ok-false.field-0-test)
           c.loop-row.invariant.moved c.in-Ok-false.ensures.moved)
@@ -33,11 +35,14 @@ returns-in-Err-finish-clause-err g c =
     let below = c.loop-row-test.true in (
       (c.loop-row._row + 0) + 0,
       omega (arith, below),
-      moved_refused g.P.TablePort.went Edit CompactStep c.args.port.now c.finish.new.port c.args.self.now c.finish.new.self
+      moved_refused g.P.TablePort.went g.P.TablePort.told Edit CompactStep c.args.port.now c.finish.new.port c.args.self.now
+          c.finish.new.self
           c.in-Err-finish.fault ((c.loop-row._row + 0) + 0)
-          (moved_then g.P.TablePort.went c.args.port.now c.merge_one.new.port c.finish.new.port c.args.self.now
+          (moved_then g.P.TablePort.went g.P.TablePort.told c.args.port.now c.merge_one.new.port c.finish.new.port
+          c.args.self.now
           c.merge_one.new.self c.finish.new.self _ (c.loop-row._row + 0) 0 ((c.loop-row._row + 0) + 0) refl
-          (moved_then g.P.TablePort.went c.args.port.now c.loop-row.port c.merge_one.new.port c.args.self.now c.loop-row.self
+          (moved_then g.P.TablePort.went g.P.TablePort.told c.args.port.now c.loop-row.port c.merge_one.new.port
+          c.args.self.now c.loop-row.self
           c.merge_one.new.self None c.loop-row._row _ (c.loop-row._row + 0)
           (ap (λ (b : Bool). c.loop-row._row + merged_in (Ok b)) c.in-Ok-false.field-0-test)
           c.loop-row.invariant.moved c.in-Ok-false.ensures.moved)
@@ -49,16 +54,18 @@ returns-in-Err-clause-err g c =
     let below = c.loop-row-test.true in (
       c.loop-row._row + 0,
       omega (arith, below),
-      moved_refused g.P.TablePort.went Bool CompactStep c.args.port.now c.merge_one.new.port c.args.self.now
+      moved_refused g.P.TablePort.went g.P.TablePort.told Bool CompactStep c.args.port.now c.merge_one.new.port c.args.self.now
           c.merge_one.new.self c.in-Err.fault (c.loop-row._row + 0)
-          (moved_then g.P.TablePort.went c.args.port.now c.loop-row.port c.merge_one.new.port c.args.self.now c.loop-row.self
+          (moved_then g.P.TablePort.went g.P.TablePort.told c.args.port.now c.loop-row.port c.merge_one.new.port
+          c.args.self.now c.loop-row.self
           c.merge_one.new.self _ c.loop-row._row 0 (c.loop-row._row + 0) refl
           c.loop-row.invariant.moved c.in-Err.ensures.moved),
     )
 
 pub loop-row-preserved : goal.loop-row-preserved
 loop-row-preserved g c = record {
-  moved = moved_then g.P.TablePort.went c.args.port.now c.loop-row.port c.merge_one.new.port c.args.self.now c.loop-row.self
+  moved = moved_then g.P.TablePort.went g.P.TablePort.told c.args.port.now c.loop-row.port c.merge_one.new.port c.args.self.now
+      c.loop-row.self
       c.merge_one.new.self None c.loop-row._row _ (c.loop-row._row + 1)
       (ap (λ (b : Bool). c.loop-row._row + merged_in (Ok b)) c.in-Ok-true.field-0-test)
       c.loop-row.invariant.moved c.in-Ok-true.ensures.moved;

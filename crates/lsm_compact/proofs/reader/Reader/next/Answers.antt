@@ -1,5 +1,6 @@
-use Rattle.std.proofs.Common.{Option, None}
+use Rattle.std.proofs.Common.{Option, None, [], refl, option_to_list}
 use Rattle.lsm_rows.specs.declared.rows.Row.{Row}
+use Rattle.lsm_compact.proofs.Given.{answer_gives, gives_none, gives_then, refused_gives}
 use Rattle.lsm_compact.proofs.Ports.{unmoved, kept_then}
 use Rattle.lsm_compact.proofs.Readers.{called_sound, called_later, given_row, later_itself, later_then, ok_kept, wanting_from}
 use Rattle.lsm_compact.proofs.Writes.{and_then, no_call, goes_refused}
@@ -9,6 +10,7 @@ pub loop-fill-init : goal.loop-fill-init
 loop-fill-init g c = record {
   sound = c.requires;
   later = later_itself c.args.self.now.merge;
+  contents = gives_none (g.P.TablePort.told c.args.port.now) (g.P.TablePort.told c.args.port.now) c.args.self.now refl;
   goes = λ over start calls o written led w. no_call g.P.TablePort.went start calls c.args.port.now over o written led w;
   port = unmoved g.P.TablePort.told g.P.TablePort.faults c.args.port.now;
 }
@@ -79,6 +81,15 @@ loop-fill-preserved g c = record {
       (called_later c.loop-fill.self.readings.items c.loop-fill.self.merge c.next.new.self c.next.ensures.ready
       c.next.ensures.ahead
       c.in-Err-Source.ensures.err.kept)) c.fill.ensures.later;
+  contents = gives_then (g.P.TablePort.told c.args.port.now) (g.P.TablePort.told c.loop-fill.port)
+      (g.P.TablePort.told c.fill.new.port) c.args.self.now c.loop-fill.self c.fill.new.self [] []
+      c.loop-fill.invariant.contents
+      (gives_then (g.P.TablePort.told c.loop-fill.port) (g.P.TablePort.told c.loop-fill.port)
+      (g.P.TablePort.told c.fill.new.port) c.loop-fill.self (record c.loop-fill.self { merge = c.next.new.self })
+      c.fill.new.self [] []
+      (refused_gives (g.P.TablePort.told c.loop-fill.port) c.loop-fill.self c.next.new.self c.loop-fill.invariant.sound
+      c.next.ensures.ready c.next.ensures.ahead c.next.ensures.whole c.in-Err-Source.ensures.err)
+      c.fill.ensures.contents);
   goes = λ over start calls o written led w.
       let first = c.loop-fill.invariant.goes over start calls o written led w in
       and_then g.P.TablePort.went start calls c.loop-fill.port c.fill.new.port over over o o written written None first
@@ -86,3 +97,31 @@ loop-fill-preserved g c = record {
   port = kept_then g.P.TablePort.told g.P.TablePort.faults c.args.port.now c.loop-fill.port c.fill.new.port None
       c.loop-fill.invariant.port c.in-Ok-fill.ensures.port;
 }
+
+pub returns-in-Ok-clause-contents : goal.returns-in-Ok-clause-contents
+returns-in-Ok-clause-contents g c =
+    gives_then (g.P.TablePort.told c.args.port.now) (g.P.TablePort.told c.loop-fill.port)
+    (g.P.TablePort.told c.loop-fill.port) c.args.self.now c.loop-fill.self
+    (record c.loop-fill.self { merge = c.next.new.self }) [] (option_to_list c.in-Ok.next) c.loop-fill.invariant.contents
+    (answer_gives (g.P.TablePort.told c.loop-fill.port) c.loop-fill.self c.next.new.self c.loop-fill.invariant.sound
+    c.next.ensures.ready c.next.ensures.ahead c.next.ensures.whole c.in-Ok.next c.in-Ok.ensures.ok c.in-Ok.ensures.asked)
+
+pub returns-in-Err-clause-contents : goal.returns-in-Err-clause-contents
+returns-in-Err-clause-contents g c =
+    gives_then (g.P.TablePort.told c.args.port.now) (g.P.TablePort.told c.loop-fill.port)
+    (g.P.TablePort.told c.fill.new.port) c.args.self.now c.loop-fill.self c.fill.new.self [] []
+    c.loop-fill.invariant.contents
+    (gives_then (g.P.TablePort.told c.loop-fill.port) (g.P.TablePort.told c.loop-fill.port)
+    (g.P.TablePort.told c.fill.new.port) c.loop-fill.self (record c.loop-fill.self { merge = c.next.new.self })
+    c.fill.new.self [] []
+    (refused_gives (g.P.TablePort.told c.loop-fill.port) c.loop-fill.self c.next.new.self c.loop-fill.invariant.sound
+    c.next.ensures.ready c.next.ensures.ahead c.next.ensures.whole c.in-Err-Source.ensures.err)
+    c.fill.ensures.contents)
+
+pub returns-in-Err-NoMemory-clause-contents : goal.returns-in-Err-NoMemory-clause-contents
+returns-in-Err-NoMemory-clause-contents g c =
+    gives_then (g.P.TablePort.told c.args.port.now) (g.P.TablePort.told c.loop-fill.port)
+    (g.P.TablePort.told c.loop-fill.port) c.args.self.now c.loop-fill.self
+    (record c.loop-fill.self { merge = c.next.new.self }) [] [] c.loop-fill.invariant.contents
+    (refused_gives (g.P.TablePort.told c.loop-fill.port) c.loop-fill.self c.next.new.self c.loop-fill.invariant.sound
+    c.next.ensures.ready c.next.ensures.ahead c.next.ensures.whole c.in-Err-NoMemory.ensures.err)

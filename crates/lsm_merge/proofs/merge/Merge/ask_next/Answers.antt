@@ -1,6 +1,7 @@
-use Rattle.std.proofs.Common.{subst, ◌<◌, length}
+use Rattle.std.proofs.Common.{ap, ◌∙◌, subst, ◌<◌, length, map}
 use Rattle.lsm_merge.specs.Merging.{Merging}
 use Rattle.lsm_merge.proofs.Closing.{close_none, close_fault, close_asked}
+use Rattle.lsm_merge.proofs.Lists.{map_set}
 use Rattle.lsm_merge.proofs.merge.Merge.ask_next.Goals as goal
 
 pub returns-then-is_err-clause-step : goal.returns-then-is_err-clause-step
@@ -17,3 +18,19 @@ returns-in-Err-clause-step g c =
     c.requires.ready (subst (λ (m : Merging _). m.asked < length m.sources → c.self.inside.asked < length m.sources)
     c.self.view_is (λ less. less) c.requires.more) c.index_mut.ensures.value c.in-Err.ensures.err c.in-Err.ensures.end
     c.in-Err.ensures.refused
+
+pub returns-in-Ok-clause-whole : goal.returns-in-Ok-clause-whole
+returns-in-Ok-clause-whole g c =
+    map_set g.R.RowSource.whole c.self.inside.sources.items c.self.inside.asked c.index_mut.result.now c.next.new.self
+    c.index_mut.ensures.value c.next.ensures.whole
+    ∙ ap (λ (m : Merging g.row.R.Denot). map g.R.RowSource.whole m.sources) c.self.view_is
+
+pub returns-in-Err-clause-whole : goal.returns-in-Err-clause-whole
+returns-in-Err-clause-whole g c =
+    map_set g.R.RowSource.whole c.self.inside.sources.items c.self.inside.asked c.index_mut.result.now c.next.new.self
+    c.index_mut.ensures.value c.next.ensures.whole
+    ∙ ap (λ (m : Merging g.row.R.Denot). map g.R.RowSource.whole m.sources) c.self.view_is
+
+pub returns-then-is_err-clause-whole : goal.returns-then-is_err-clause-whole
+returns-then-is_err-clause-whole g c =
+    ap (λ (m : Merging g.row.R.Denot). map g.R.RowSource.whole m.sources) c.self.view_is

@@ -1,4 +1,4 @@
-use Rattle.std.proofs.Common.{◌≡◌, length, subst, sym}
+use Rattle.std.proofs.Common.{◌≡◌, ◌∙◌, ap, length, map, subst, sym}
 use Rattle.std.specs.Prelude.{Ok}
 use Rattle.lsm_merge.specs.Merging.{Merging, ToldFaults}
 use Rattle.lsm_merge.proofs.Giving.{close_gives, close_ready, close_ahead, close_fewer, close_count}
@@ -45,3 +45,7 @@ returns-clause-count g c =
 pub returns-clause-asked : goal.returns-clause-asked
 returns-clause-asked g c =
     subst (λ (m : Merging g.row.R.Denot). m.asked ≡ length m.sources) (sym c.self.view_is) c.in_ok-find.ensures.ok.asked
+
+pub returns-clause-whole : goal.returns-clause-whole
+returns-clause-whole g c =
+    ap (λ (m : Merging g.row.R.Denot). map g.R.RowSource.whole m.sources) c.self.view_is ∙ c.find.ensures.whole

@@ -1,7 +1,8 @@
-use Rattle.std.proofs.Common.{ap, ◌∙◌, length, Option, unwrap_or, refl, arith}
+use Rattle.std.proofs.Common.{ap, ◌∙◌, length, map, Option, unwrap_or, refl, arith}
 use Rattle.lsm_rows.specs.declared.rows.Row.{Row}
 use Rattle.lsm_merge.specs.Merging.{Merging}
 use Rattle.lsm_merge.proofs.Closing.{close_fault, close_taken, close_held, close_within}
+use Rattle.lsm_merge.proofs.Lists.{map_set}
 use Rattle.lsm_merge.proofs.merge.Merge.take_first.Goals as goal
 
 pub first_place-place-requires : goal.first_place-place-requires
@@ -45,3 +46,15 @@ returns-in-Err-clause-step g c =
     (close_within g.R.RowSource.left g.R.RowSource.ended g.R.RowSource.fault _ _ c.first_place-place.result
     c.self.view_is c.requires.ready c.requires.more c.first_place-place.ensures)
     c.index_mut.ensures.value c.in-Err.ensures.err c.in-Err.ensures.end c.in-Err.ensures.refused
+
+pub returns-in-Ok-clause-whole : goal.returns-in-Ok-clause-whole
+returns-in-Ok-clause-whole g c =
+    map_set g.R.RowSource.whole c.self.inside.sources.items c.first_place-place.result c.index_mut.result.now c.next.new.self
+    c.index_mut.ensures.value c.next.ensures.whole
+    ∙ ap (λ (m : Merging g.row.R.Denot). map g.R.RowSource.whole m.sources) c.self.view_is
+
+pub returns-in-Err-clause-whole : goal.returns-in-Err-clause-whole
+returns-in-Err-clause-whole g c =
+    map_set g.R.RowSource.whole c.self.inside.sources.items c.first_place-place.result c.index_mut.result.now c.next.new.self
+    c.index_mut.ensures.value c.next.ensures.whole
+    ∙ ap (λ (m : Merging g.row.R.Denot). map g.R.RowSource.whole m.sources) c.self.view_is

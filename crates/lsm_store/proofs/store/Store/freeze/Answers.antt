@@ -1,14 +1,17 @@
 -- Each exit is a lemma of `Freezes`, at what the store held before the call.
 use Rattle.std.specs.Prelude.{◌≡◌, ◌≢◌, ◌+◌, ◌-◌, ◌^◌, ◌<◌, true, false, List, [], length, None, Some, Ok, Err}
-use Rattle.std.proofs.Common.{inl, inr, ap, subst, arith}
+use Rattle.std.proofs.Common.{rules, ◌∙◌, inl, inr, ap, subst, arith}
 use Rattle.lsm_names.specs.declared.file_names.FileName.{FileName}
 use Rattle.lsm_names.specs.declared.file_names.FileName.TheVariants.{Log}
 use Rattle.lsm_model.specs.declared.errors.StoreError.TheVariants as error
+use Rattle.lsm_flush.specs.declared.frozen.Held.TheVariants.{Rows}
+use Rattle.lsm_flush.specs.Frozen.{rows_of}
 use Rattle.lsm_refine.specs.Kept.{Shown}
 use Rattle.lsm_store.specs.Inside.{Inner, shown_of}
 use Rattle.lsm_store.proofs.Calls.{no_halt, is_nothing, is_something, taken_back, leads_on}
 use Rattle.lsm_store.specs.Fields.{inner}
-use Rattle.lsm_store.proofs.Freezes.{IsFreeze, halted_freeze, idle_freeze, full_freeze, unsynced_freeze, unknown_freeze, ok_freeze, unmade_freeze}
+use Rattle.lsm_store.proofs.Freezes.{file_number, IsFreeze, halted_freeze, idle_freeze, full_freeze, unsynced_freeze, unknown_freeze, ok_freeze, unmade_freeze}
+use Rattle.lsm_store.proofs.Insides.{below_pushed, fit_pushed, flush_frozen}
 use Rattle.lsm_store.proofs.store.Store.freeze.Given as given
 use Rattle.lsm_store.proofs.store.Store.freeze.Goals as goal
 
@@ -58,8 +61,8 @@ at-then-not-is_empty g c =
     let x : Inner = inner g.D.Disk.seen c.self.inside in
     let none : c.self.inside.halt ≡ None = no_halt c.self.inside.halt c.in_default.not-Some in
     subst (λ (v : Shown). IsFreeze (Ok false) v v) c.self.view_is
-    (idle_freeze x c.self.invariant none (inr (is_something c.is_empty-2.result c.self.inside.frozen
-    c.is_empty-2.ensures c.if-not-is_empty.true)))
+    (idle_freeze x c.self.invariant none (inr (is_something c.is_empty-2.result (rows_of c.self.inside.frozen)
+    c.is_empty-2.ensures.rows c.if-not-is_empty.true)))
 
 pub returns-then-not-is_empty-clause-step : goal.returns-then-not-is_empty-clause-step
 returns-then-not-is_empty-clause-step g c = (at-then-not-is_empty g c).step
@@ -80,8 +83,8 @@ at-then-self-ge-NUMBER_END g c =
     let none : c.self.inside.halt ≡ None = no_halt c.self.inside.halt c.in_default.not-Some in
     let some : c.self.inside.active ≢ [] = is_something c.is_empty.result c.self.inside.active c.is_empty.ensures
     c.if-is_empty.false in
-    let no_frozen : c.self.inside.frozen ≡ [] = is_nothing c.is_empty-2.result c.self.inside.frozen
-    c.is_empty-2.ensures c.if-not-is_empty.false in
+    let no_frozen : rows_of c.self.inside.frozen ≡ [] = is_nothing c.is_empty-2.result (rows_of c.self.inside.frozen)
+    c.is_empty-2.ensures.rows c.if-not-is_empty.false in
     subst (λ (v : Shown). IsFreeze (Err (error.NumbersFull c.self.inside.next)) v v) c.self.view_is
     (full_freeze x c.self.invariant none some no_frozen (omega (arith, c.if-self-ge-NUMBER_END.true)))
 
@@ -108,8 +111,8 @@ at-in-Err g c =
     let none : c.self.inside.halt ≡ None = no_halt c.self.inside.halt c.in_default.not-Some in
     let some : c.self.inside.active ≢ [] = is_something c.is_empty.result c.self.inside.active c.is_empty.ensures
     c.if-is_empty.false in
-    let no_frozen : c.self.inside.frozen ≡ [] = is_nothing c.is_empty-2.result c.self.inside.frozen
-    c.is_empty-2.ensures c.if-not-is_empty.false in
+    let no_frozen : rows_of c.self.inside.frozen ≡ [] = is_nothing c.is_empty-2.result (rows_of c.self.inside.frozen)
+    c.is_empty-2.ensures.rows c.if-not-is_empty.false in
     let small : c.self.inside.next < 2 ^ 56 - 1 = omega (arith, c.if-self-ge-NUMBER_END.false) in
     subst (λ (v : Shown). IsFreeze (Err c.error_of.result) v (shown_of (record x {
       disk = g.D.Disk.seen
@@ -149,8 +152,8 @@ at-in_default-push g c =
     let none : c.self.inside.halt ≡ None = no_halt c.self.inside.halt c.in_default.not-Some in
     let some : c.self.inside.active ≢ [] = is_something c.is_empty.result c.self.inside.active c.is_empty.ensures
     c.if-is_empty.false in
-    let no_frozen : c.self.inside.frozen ≡ [] = is_nothing c.is_empty-2.result c.self.inside.frozen
-    c.is_empty-2.ensures c.if-not-is_empty.false in
+    let no_frozen : rows_of c.self.inside.frozen ≡ [] = is_nothing c.is_empty-2.result (rows_of c.self.inside.frozen)
+    c.is_empty-2.ensures.rows c.if-not-is_empty.false in
     let small : c.self.inside.next < 2 ^ 56 - 1 = omega (arith, c.if-self-ge-NUMBER_END.false) in
     subst (λ (v : Shown). IsFreeze (Err error.NoMemory) v (shown_of (record x {
       disk = g.D.Disk.seen
@@ -174,7 +177,7 @@ returns-in_default-push-clause-causes g c = (at-in_default-push g c).causes
 pub returns-in_default-push-clause-leads : goal.returns-in_default-push-clause-leads
 returns-in_default-push-clause-leads g c start steps = leads_on start steps (at-in_default-push g c)
 
-at-in-Ok-create : (g : given.Over) (c : goal.After-drop-self-inside-in-Ok-create g)
+at-in-Ok-create : (g : given.Over) (c : goal.After-hold g)
     → IsFreeze (Ok true) c.args.self.now (shown_of (record (inner g.D.Disk.seen c.self.inside) {
       disk = g.D.Disk.seen
           c.create.new.disk;
@@ -183,8 +186,8 @@ at-in-Ok-create : (g : given.Over) (c : goal.After-drop-self-inside-in-Ok-create
       older = Some c.self.inside.log;
       older_len =
           c.len-self-inside.result;
-      active = c.replace.new.dest;
-      frozen = c.replace.result;
+      active = c.replace-rows.new.dest;
+      frozen = c.hold.new.self;
       next = c.self.inside.next + 1;
       known = c.push.new.self.items;
     }))
@@ -193,8 +196,8 @@ at-in-Ok-create g c =
     let none : c.self.inside.halt ≡ None = no_halt c.self.inside.halt c.in_default.not-Some in
     let some : c.self.inside.active ≢ [] = is_something c.is_empty.result c.self.inside.active c.is_empty.ensures
     c.if-is_empty.false in
-    let no_frozen : c.self.inside.frozen ≡ [] = is_nothing c.is_empty-2.result c.self.inside.frozen
-    c.is_empty-2.ensures c.if-not-is_empty.false in
+    let no_frozen : rows_of c.self.inside.frozen ≡ [] = is_nothing c.is_empty-2.result (rows_of c.self.inside.frozen)
+    c.is_empty-2.ensures.rows c.if-not-is_empty.false in
     let small : c.self.inside.next < 2 ^ 56 - 1 = omega (arith, c.if-self-ge-NUMBER_END.false) in
     subst (λ (v : Shown). IsFreeze (Ok true) v (shown_of (record x {
       disk = g.D.Disk.seen c.create.new.disk;
@@ -204,8 +207,8 @@ at-in-Ok-create g c =
       older = Some c.self.inside.log;
       older_len =
           c.len-self-inside.result;
-      active = c.replace.new.dest;
-      frozen = c.replace.result;
+      active = c.replace-rows.new.dest;
+      frozen = c.hold.new.self;
       next = c.self.inside.next + 1;
       known = c.push.new.self.items;
     }))) c.self.view_is
@@ -213,9 +216,10 @@ at-in-Ok-create g c =
     c.path.ensures c.in_default-sync_file.ensures.made c.sync_file.ensures.cause.faults_later
     c.sync_file.ensures.cause.refusals_later c.sync_file.ensures.lawful (g.D.Disk.seen c.create.new.disk)
     c.file-path.result c.file-path.ensures c.create.ensures.cause.faults_later c.create.ensures.cause.refusals_later
-    (Unit {0}) tt c.in-Ok-create.wal c.push.new.self.items c.len-self-inside.result c.new.result c.replace.new.dest
-    c.replace.result c.in-Ok-create.ensures.went c.in-Ok-create.ensures.log c.in-Ok.ensures.items
-    c.len-self-inside.ensures c.replace.ensures.after c.new.ensures c.replace.ensures.value)
+    (Unit {0}) tt c.in-Ok-create.wal c.push.new.self.items c.len-self-inside.result c.new.result c.replace-rows.new.dest
+    c.hold.new.self c.in-Ok-create.ensures.went c.in-Ok-create.ensures.log c.in-Ok.ensures.items
+    c.len-self-inside.ensures c.replace-rows.ensures.after c.new.ensures (c.hold.ensures ∙ ap Rows c.replace-rows.ensures.value)
+    (c.is_empty-2.ensures.idle.0 c.if-not-is_empty.false))
 
 pub returns-in-Ok-create-clause-step : goal.returns-in-Ok-create-clause-step
 returns-in-Ok-create-clause-step g c = (at-in-Ok-create g c).step
@@ -242,8 +246,8 @@ at-in-Err-create g c =
     let none : c.self.inside.halt ≡ None = no_halt c.self.inside.halt c.in_default.not-Some in
     let some : c.self.inside.active ≢ [] = is_something c.is_empty.result c.self.inside.active c.is_empty.ensures
     c.if-is_empty.false in
-    let no_frozen : c.self.inside.frozen ≡ [] = is_nothing c.is_empty-2.result c.self.inside.frozen
-    c.is_empty-2.ensures c.if-not-is_empty.false in
+    let no_frozen : rows_of c.self.inside.frozen ≡ [] = is_nothing c.is_empty-2.result (rows_of c.self.inside.frozen)
+    c.is_empty-2.ensures.rows c.if-not-is_empty.false in
     let small : c.self.inside.next < 2 ^ 56 - 1 = omega (arith, c.if-self-ge-NUMBER_END.false) in
     subst (λ (v : Shown). IsFreeze (Err c.error_of-in-Err-create.result) v (shown_of (record x {
       disk = g.D.Disk.seen
@@ -274,3 +278,24 @@ returns-in-Err-create-clause-causes g c = (at-in-Err-create g c).causes
 
 pub returns-in-Err-create-clause-leads : goal.returns-in-Err-create-clause-leads
 returns-in-Err-create-clause-leads g c start steps = leads_on start steps (at-in-Err-create g c)
+
+pub invariant_of-self-in-Ok-create : goal.invariant_of-self-in-Ok-create
+invariant_of-self-in-Ok-create g c = record {
+  path_is = search rules;
+  manifest_in = c.self.invariant.manifest_in;
+  manifest_is = c.self.invariant.manifest_is;
+  before = search rules;
+  small = c.self.invariant.small;
+  one = search rules;
+  drawn = omega arith;
+  most = omega (arith, c.if-self-ge-NUMBER_END.false);
+  below = below_pushed c.self.inside.next c.self.inside.known.items c.push.new.self.items (Log c.self.inside.next)
+      c.self.invariant.below (omega arith) c.in-Ok.ensures.items;
+  jobs = c.self.invariant.jobs;
+  fit = fit_pushed c.self.inside.known.items c.push.new.self.items (Log c.self.inside.next) c.self.invariant.fit
+      (file_number c.self.inside.next c.self.invariant.drawn (omega (arith, c.if-self-ge-NUMBER_END.false)))
+      c.in-Ok.ensures.items;
+  flush = flush_frozen (inner g.D.Disk.seen c.self.inside) c.self.invariant (omega (arith, c.if-self-ge-NUMBER_END.false))
+      c.replace-rows.new.dest c.new.result c.replace-rows.result c.hold.new.self c.replace-rows.ensures.after c.new.ensures c.hold.ensures
+      c.replace-rows.ensures.value;
+}

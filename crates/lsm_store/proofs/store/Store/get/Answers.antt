@@ -1,6 +1,8 @@
 -- Each exit is a lemma of `Gets`, at what the store held before the call.
 use Rattle.std.specs.Prelude.{ℕ, List, Option, Result, Ok, Err}
-use Rattle.std.proofs.Common.{sym, subst}
+use Rattle.std.proofs.Common.{sym, ap, ◌∙◌, subst}
+use Rattle.lsm_rows.specs.declared.rows.Row.{Row}
+use Rattle.lsm_store.specs.Reading.{value_in_memory}
 use Rattle.lsm_model.specs.declared.errors.StoreError.{StoreError}
 use Rattle.lsm_model.specs.declared.errors.StoreError.TheVariants as error
 use Rattle.lsm_refine.specs.Kept.{Shown}
@@ -18,7 +20,8 @@ at-in-Ok-Some g c =
     subst (λ (v : Shown). IsGet c.args.key.now (Ok c.in-Ok-Some.value) v v) c.self.view_is
     (known_get (inner g.D.Disk.seen c.self.inside) c.args.key.now c.in-Ok-Some.value c.in-Ok-Some.field-0
     c.in-Ok-Some.field-0-is
-    c.in-Ok-Some.ensures)
+    (c.in-Ok-Some.ensures
+    ∙ ap (λ (rows : List Row). value_in_memory c.self.inside.active rows c.args.key.now) c.rows.ensures))
 
 pub returns-in-Ok-Some-clause-step : goal.returns-in-Ok-Some-clause-step
 returns-in-Ok-Some-clause-step g c = (at-in-Ok-Some g c).step
@@ -44,12 +47,14 @@ at-after-find_row g c =
     (elim c.match-find_row.branch [
       | in-Ok w ↦
           subst (λ (r : Result (Option (List ℕ)) StoreError). IsGet c.args.key.now r (shown_of x) later) (sym w.result-is)
-          (found_get x c.args.key.now c.in-Ok-None.field-0 c.in-Ok-None.field-0-is c.in-Ok-None.ensures (g.D.Disk.seen
+          (found_get x c.args.key.now c.in-Ok-None.field-0 c.in-Ok-None.field-0-is (c.in-Ok-None.ensures
+          ∙ ap (λ (rows : List Row). value_in_memory c.self.inside.active rows c.args.key.now) c.rows.ensures) (g.D.Disk.seen
           c.find_row.new.disk)
           c.find_row.new.catalog w.in-Ok.row w.value_of.result w.value_of.ensures w.in-Ok.ensures)
       | in-Err-find_row w ↦
           subst (λ (r : Result (Option (List ℕ)) StoreError). IsGet c.args.key.now r (shown_of x) later) (sym w.result-is)
-          (refused_get x c.args.key.now c.in-Ok-None.field-0 c.in-Ok-None.field-0-is c.in-Ok-None.ensures (g.D.Disk.seen
+          (refused_get x c.args.key.now c.in-Ok-None.field-0 c.in-Ok-None.field-0-is (c.in-Ok-None.ensures
+          ∙ ap (λ (rows : List Row). value_in_memory c.self.inside.active rows c.args.key.now) c.rows.ensures) (g.D.Disk.seen
           c.find_row.new.disk)
           c.find_row.new.catalog w.in-Err-find_row.refused w.in-Err-find_row.ensures)
     ])

@@ -1,6 +1,8 @@
 -- Each exit is a lemma of `Probes`, at what the store held before the call.
-use Rattle.std.specs.Prelude.{None, Result, Ok, Err}
-use Rattle.std.proofs.Common.{sym, subst}
+use Rattle.std.specs.Prelude.{List, None, Result, Ok, Err}
+use Rattle.std.proofs.Common.{sym, ap, ◌∙◌, subst}
+use Rattle.lsm_rows.specs.declared.rows.Row.{Row}
+use Rattle.lsm_store.specs.Reading.{value_in_memory}
 use Rattle.lsm_model.specs.declared.errors.StoreError.{StoreError}
 use Rattle.lsm_model.specs.declared.errors.StoreError.TheVariants as error
 use Rattle.lsm_refine.specs.Kept.{Shown}
@@ -17,14 +19,16 @@ pub returns-in-Ok-Some : goal.returns-in-Ok-Some
 returns-in-Ok-Some g c =
     subst (λ (v : Shown). Probed {V = g.row.D-View.Denot} c.args.key.now v v (Ok (Known c.in-Ok-Some.value))) c.self.view_is
     (known_probe g.row.D-View.Denot (inner g.D.Disk.seen c.self.inside) c.args.key.now c.in-Ok-Some.value c.in-Ok-Some.field-0
-    c.in-Ok-Some.field-0-is c.in-Ok-Some.ensures)
+    c.in-Ok-Some.field-0-is (c.in-Ok-Some.ensures
+    ∙ ap (λ (rows : List Row). value_in_memory c.self.inside.active rows c.args.key.now) c.rows.ensures))
 
 pub returns-then-has_no_table : goal.returns-then-has_no_table
 returns-then-has_no_table g c =
     subst (λ (v : Shown). Probed {V = g.row.D-View.Denot} c.args.key.now v v (Ok (Known None))) c.self.view_is
     (empty_probe g.row.D-View.Denot (inner g.D.Disk.seen c.self.inside) c.args.key.now c.in-Ok-None.field-0
     c.in-Ok-None.field-0-is
-    c.in-Ok-None.ensures (sym c.if-has_no_table.ensures))
+    (c.in-Ok-None.ensures
+    ∙ ap (λ (rows : List Row). value_in_memory c.self.inside.active rows c.args.key.now) c.rows.ensures) (sym c.if-has_no_table.ensures))
 
 pub returns-after-open_tables : goal.returns-after-open_tables
 returns-after-open_tables g c =
@@ -36,13 +40,15 @@ returns-after-open_tables g c =
           subst (λ (r : Result (Probe g.row.D-View.Denot) StoreError). Probed {V = g.row.D-View.Denot} c.args.key.now
           (shown_of x) later r)
           (sym w.result-is)
-          (look_probe g.row.D-View.Denot x c.args.key.now c.in-Ok-None.field-0 c.in-Ok-None.field-0-is c.in-Ok-None.ensures
+          (look_probe g.row.D-View.Denot x c.args.key.now c.in-Ok-None.field-0 c.in-Ok-None.field-0-is (c.in-Ok-None.ensures
+          ∙ ap (λ (rows : List Row). value_in_memory c.self.inside.active rows c.args.key.now) c.rows.ensures)
           (sym c.if-has_no_table.ensures) (g.D.Disk.seen c.open_tables.new.disk) w.in-Ok.tables w.in-Ok.ensures)
       | in-Err-open_tables w ↦
           subst (λ (r : Result (Probe g.row.D-View.Denot) StoreError). Probed {V = g.row.D-View.Denot} c.args.key.now
           (shown_of x) later r)
           (sym w.result-is)
-          (refused_probe g.row.D-View.Denot x c.args.key.now c.in-Ok-None.field-0 c.in-Ok-None.field-0-is c.in-Ok-None.ensures
+          (refused_probe g.row.D-View.Denot x c.args.key.now c.in-Ok-None.field-0 c.in-Ok-None.field-0-is (c.in-Ok-None.ensures
+          ∙ ap (λ (rows : List Row). value_in_memory c.self.inside.active rows c.args.key.now) c.rows.ensures)
           (sym c.if-has_no_table.ensures) (g.D.Disk.seen c.open_tables.new.disk) w.in-Err-open_tables.refused
           w.in-Err-open_tables.ensures)
     ])

@@ -21,8 +21,8 @@ returns-clause-step g c =
     elim c.match-read_rows.branch [
       | in-Ok+in-Ok-pairs_with w ↦
           subst (λ (r : Result Contents StoreError). IsScan r c.args.self.now later) (sym w.result-is)
-          (found_scan x seen c.read_rows.new.catalog c.args.self.now c.self.view_is w.in-Ok.rows w.in-Ok-pairs_with.pairs
-          w.in-Ok-pairs_with.ensures w.in-Ok.ensures)
+          (found_scan x seen c.read_rows.new.catalog c.args.self.now c.self.view_is w.in-Ok.rows w.rows.result.now
+          w.in-Ok-pairs_with.pairs w.in-Ok-pairs_with.ensures w.rows.ensures w.in-Ok.ensures)
       | in-Ok+in-Err-pairs_with w ↦
           subst (λ (r : Result Contents StoreError). IsScan r c.args.self.now later) (sym w.result-is)
           (wanting_scan x seen c.read_rows.new.catalog c.args.self.now c.self.view_is w.in-Ok.rows w.in-Ok.ensures)
@@ -41,8 +41,8 @@ returns-clause-images g c =
     elim c.match-read_rows.branch [
       | in-Ok+in-Ok-pairs_with w ↦
           subst (λ (r : Result Contents StoreError). IsScan r c.args.self.now later) (sym w.result-is)
-          (found_scan x seen c.read_rows.new.catalog c.args.self.now c.self.view_is w.in-Ok.rows w.in-Ok-pairs_with.pairs
-          w.in-Ok-pairs_with.ensures w.in-Ok.ensures)
+          (found_scan x seen c.read_rows.new.catalog c.args.self.now c.self.view_is w.in-Ok.rows w.rows.result.now
+          w.in-Ok-pairs_with.pairs w.in-Ok-pairs_with.ensures w.rows.ensures w.in-Ok.ensures)
       | in-Ok+in-Err-pairs_with w ↦
           subst (λ (r : Result Contents StoreError). IsScan r c.args.self.now later) (sym w.result-is)
           (wanting_scan x seen c.read_rows.new.catalog c.args.self.now c.self.view_is w.in-Ok.rows w.in-Ok.ensures)
@@ -61,8 +61,8 @@ returns-clause-causes g c =
     elim c.match-read_rows.branch [
       | in-Ok+in-Ok-pairs_with w ↦
           subst (λ (r : Result Contents StoreError). IsScan r c.args.self.now later) (sym w.result-is)
-          (found_scan x seen c.read_rows.new.catalog c.args.self.now c.self.view_is w.in-Ok.rows w.in-Ok-pairs_with.pairs
-          w.in-Ok-pairs_with.ensures w.in-Ok.ensures)
+          (found_scan x seen c.read_rows.new.catalog c.args.self.now c.self.view_is w.in-Ok.rows w.rows.result.now
+          w.in-Ok-pairs_with.pairs w.in-Ok-pairs_with.ensures w.rows.ensures w.in-Ok.ensures)
       | in-Ok+in-Err-pairs_with w ↦
           subst (λ (r : Result Contents StoreError). IsScan r c.args.self.now later) (sym w.result-is)
           (wanting_scan x seen c.read_rows.new.catalog c.args.self.now c.self.view_is w.in-Ok.rows w.in-Ok.ensures)
@@ -81,8 +81,8 @@ returns-clause-leads g c start steps =
     elim c.match-read_rows.branch [
       | in-Ok+in-Ok-pairs_with w ↦
           subst (λ (r : Result Contents StoreError). IsScan r c.args.self.now later) (sym w.result-is)
-          (found_scan x seen c.read_rows.new.catalog c.args.self.now c.self.view_is w.in-Ok.rows w.in-Ok-pairs_with.pairs
-          w.in-Ok-pairs_with.ensures w.in-Ok.ensures)
+          (found_scan x seen c.read_rows.new.catalog c.args.self.now c.self.view_is w.in-Ok.rows w.rows.result.now
+          w.in-Ok-pairs_with.pairs w.in-Ok-pairs_with.ensures w.rows.ensures w.in-Ok.ensures)
       | in-Ok+in-Err-pairs_with w ↦
           subst (λ (r : Result Contents StoreError). IsScan r c.args.self.now later) (sym w.result-is)
           (wanting_scan x seen c.read_rows.new.catalog c.args.self.now c.self.view_is w.in-Ok.rows w.in-Ok.ensures)

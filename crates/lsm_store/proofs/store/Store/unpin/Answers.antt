@@ -6,7 +6,7 @@ use Rattle.lsm_refine.specs.Kept.{Shown}
 use Rattle.lsm_store.specs.Inside.{Inner, shown_of}
 use Rattle.lsm_store.proofs.Calls.{leads_on}
 use Rattle.lsm_store.specs.Fields.{inner}
-use Rattle.lsm_store.proofs.Counting.{IsUnpin, ok_unpin, unknown_unpin}
+use Rattle.lsm_store.proofs.Counting.{IsUnpin, unpinned_inside, ok_unpin, unknown_unpin}
 use Rattle.lsm_store.proofs.store.Store.unpin.Given as given
 use Rattle.lsm_store.proofs.store.Store.unpin.Goals as goal
 
@@ -57,3 +57,7 @@ returns-clause-causes g c = (at-end g c).causes
 
 pub returns-clause-leads : goal.returns-clause-leads
 returns-clause-leads g c start steps = leads_on start steps (at-end g c)
+
+pub invariant_of-self-2 : goal.invariant_of-self-2
+invariant_of-self-2 g c = unpinned_inside (inner g.D.Disk.seen c.self.inside) c.self.invariant c.args.pin c.unpin.result
+    c.unpin.new.self c.unpin.ensures.kept

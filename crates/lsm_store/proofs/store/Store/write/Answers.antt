@@ -1,11 +1,12 @@
 -- Each exit is a lemma of `Writes`, at what the store held before the call.
 use Rattle.std.specs.Prelude.{◌≡◌, ℕ, ◌+◌, ◌^◌, ◌<◌, length, None, Ok, Err}
-use Rattle.std.proofs.Common.{refl, ap, subst, ◌∙◌, arith}
+use Rattle.std.proofs.Common.{rules, refl, ap, subst, ◌∙◌, arith}
 use Rattle.lsm_model.specs.declared.errors.StoreError.TheVariants as error
 use Rattle.lsm_refine.specs.Kept.{Shown}
 use Rattle.lsm_store.specs.Inside.{Inner, shown_of}
 use Rattle.lsm_store.proofs.Calls.{no_halt, leads_on}
 use Rattle.lsm_store.specs.Fields.{inner}
+use Rattle.lsm_store.proofs.Insides.{flush_written, joined_short}
 use Rattle.lsm_store.proofs.Writes.{IsWrite, halted_write, full_write, wanting_write, ok_write, refused_write}
 use Rattle.lsm_store.proofs.store.Store.write.Given as given
 use Rattle.lsm_store.proofs.store.Store.write.Goals as goal
@@ -202,3 +203,21 @@ returns-in-Err-clause-causes g c = (at-in-Err g c).causes
 
 pub returns-in-Err-clause-leads : goal.returns-in-Err-clause-leads
 returns-in-Err-clause-leads g c start steps = leads_on start steps (at-in-Err g c)
+
+pub invariant_of-self-in-Ok-append : goal.invariant_of-self-in-Ok-append
+invariant_of-self-in-Ok-append g c = record {
+  path_is = search rules;
+  manifest_in = c.self.invariant.manifest_in;
+  manifest_is = c.self.invariant.manifest_is;
+  before = search rules;
+  small = omega (arith, c.if-count-self.false, c.len-count.ensures.len, c.self.invariant.small);
+  one = c.self.invariant.one;
+  drawn = c.self.invariant.drawn;
+  most = c.self.invariant.most;
+  below = c.self.invariant.below;
+  fit = c.self.invariant.fit;
+  jobs = c.self.invariant.jobs;
+  flush = flush_written (inner g.D.Disk.seen c.self.inside) c.self.invariant c.add.new.self
+      (joined_short c.self.inside.active c.add.new.self (c.self.inside.sequence + 1) c.args.batch.now
+      c.self.invariant.flush.active_keys c.len-count.ensures.limits c.in-Ok.ensures.ok);
+}

@@ -1,0 +1,54 @@
+-- Each exit, by what the sync left.
+use Rattle.std.specs.Prelude.{ℕ, List, Option, option_map}
+use Rattle.std.proofs.Common.{sym, ap, subst, ◌∙◌}
+use Rattle.lsm_disk.specs.State.{file_synced}
+use Rattle.lsm_disk.specs.Refusals.{no_file}
+use Rattle.lsm_disk.specs.Answers.{Makes}
+use Rattle.lsm_disk.specs.declared.calls.DiskCall.TheVariants as call
+use Rattle.lsm_disk.proofs.Files.{same_some}
+use Rattle.lsm_dest.specs.declared.hand.Hand.{Hand}
+use Rattle.lsm_dest.proofs.Doing.{exit_did}
+use Rattle.lsm_dest.proofs.Calls.{still_writing}
+use Rattle.lsm_dest.proofs.Exits.{path_is, file_sealed, seal_refused}
+use Rattle.lsm_dest.proofs.restoring.AnyBuilding.seal_in.Goals as goal
+
+pub returns-in-Some-clause-went : goal.returns-in-Some-clause-went
+returns-in-Some-clause-went g c start story begun parts name file tells is in_hand writing = still_writing start story begun parts name file tells writing
+
+pub returns-in-Ok-clause-went : goal.returns-in-Ok-clause-went
+returns-in-Ok-clause-went g c start story begun parts name file tells is in_hand writing =
+    let built = c.args.built.now in
+    let hand = c.in-Some-Some.hand in
+    let same = same_some hand.name name (sym (ap (λ (o : Option Hand). option_map (λ h. h.name) o) c.in-Some-Some.is-1) ∙ in_hand) in
+    let path = path_is built.folder built.names.items c.in-Some-Some.folder begun hand.name name c.file-path.result c.in-Some-Some.is-0 is same c.file-path.ensures in
+    file_sealed start story begun parts name c.file-path.result path tells file writing c.in-Ok.ensures.did
+
+pub returns-in-Err-clause-went : goal.returns-in-Err-clause-went
+returns-in-Err-clause-went g c start story begun parts name file tells is in_hand writing =
+    let built = c.args.built.now in
+    let hand = c.in-Some-Some.hand in
+    let same = same_some hand.name name (sym (ap (λ (o : Option Hand). option_map (λ h. h.name) o) c.in-Some-Some.is-1) ∙ in_hand) in
+    let path = path_is built.folder built.names.items c.in-Some-Some.folder begun hand.name name c.file-path.result c.in-Some-Some.is-0 is same c.file-path.ensures in
+    seal_refused start story begun parts name c.file-path.result path tells file writing c.in-Err.why c.refused.result c.refuse.result c.refused.ensures c.refuse.ensures.answer c.in-Err.ensures.did c.in-Err.ensures.answer
+
+pub returns-in-Ok-clause-did : goal.returns-in-Ok-clause-did
+returns-in-Ok-clause-did g c begun name is in_hand =
+    let built = c.args.built.now in
+    let hand = c.in-Some-Some.hand in
+    let same = same_some hand.name name (sym (ap (λ (o : Option Hand). option_map (λ h. h.name) o) c.in-Some-Some.is-1) ∙ in_hand) in
+    let path = path_is built.folder built.names.items c.in-Some-Some.folder begun hand.name name c.file-path.result c.in-Some-Some.is-0 is same c.file-path.ensures in
+    let old = (g.D.Disk.seen c.args.self.now).told in
+    let new = (g.D.Disk.seen c.sync.new.self).told in
+    subst (λ (p : List ℕ). Makes old (file_synced p) new) path
+    c.in-Ok.ensures.did
+
+pub returns-in-Err-clause-did : goal.returns-in-Err-clause-did
+returns-in-Err-clause-did g c begun name is in_hand =
+    let built = c.args.built.now in
+    let hand = c.in-Some-Some.hand in
+    let same = same_some hand.name name (sym (ap (λ (o : Option Hand). option_map (λ h. h.name) o) c.in-Some-Some.is-1) ∙ in_hand) in
+    let path = path_is built.folder built.names.items c.in-Some-Some.folder begun hand.name name c.file-path.result c.in-Some-Some.is-0 is same c.file-path.ensures in
+    let old = (g.D.Disk.seen c.args.self.now).told in
+    let new = (g.D.Disk.seen c.sync.new.self).told in
+    exit_did (λ (p : List ℕ). Makes old (file_synced p) new) no_file old new call.Sync c.file-path.result _ path c.in-Err.why
+    c.refused.result c.refuse.result c.refused.ensures c.in-Err.ensures.did c.in-Err.ensures.answer c.refuse.ensures.answer

@@ -1,0 +1,35 @@
+-- The call at what the store held before it.
+use Rattle.std.specs.Prelude.{IsSome}
+use Rattle.std.proofs.Common.{sym, ap, subst, ◌∙◌}
+use Rattle.lsm_dest.specs.FolderDests.{begun_in, hand_in}
+use Rattle.lsm_refine.specs.Kept.{Shown}
+use Rattle.lsm_restoring.specs.Calls.{LeadsOn}
+use Rattle.lsm_store.specs.Inside.{Inner, shown_of}
+use Rattle.lsm_store.specs.Fields.{inner}
+use Rattle.lsm_store.proofs.Restorings.{append_more}
+use Rattle.lsm_store.proofs.restoring.StoreDest.append.Goals as goal
+
+pub returns-clause-went : goal.returns-clause-went
+returns-clause-went g c start story begun parts name file tells is held =
+    c.append_in.ensures.went start story begun parts name file
+    (ap (λ (v : Shown). v.disk.told) c.self.view_is ∙ tells)
+    (ap (λ (v : Shown). v.kept.begun) c.self.view_is ∙ is)
+    (ap (λ (v : Shown). v.kept.hand) c.self.view_is ∙ held)
+
+pub returns-clause-more : goal.returns-clause-more
+returns-clause-more g c =
+    let x : Inner = inner g.D.Disk.seen c.self.inside in
+    let seen = g.D.Disk.seen c.append_in.new.self in
+    let built = c.append_in.new.built in
+    let w : Shown = shown_of (record x {
+      disk = seen;
+      halt = c.append_in.new.halted;
+      begun = begun_in built;
+      hand = hand_in built;
+    }) in
+    subst (λ (v : Shown). (first : Shown) → LeadsOn first v → LeadsOn first w) c.self.view_is
+    (append_more x c.self.invariant seen c.append_in.new.halted (begun_in built) (hand_in built) c.append_in.result
+    (subst (λ (v : Shown). IsSome v.kept.begun) (sym c.self.view_is) c.requires.begun)
+    (subst (λ (v : Shown). IsSome v.kept.hand) (sym c.self.view_is) c.requires.hand)
+    c.args.bytes.now c.append_in.ensures.halt c.append_in.ensures.leaves c.append_in.ensures.cause c.append_in.ensures.taken
+    c.append_in.ensures.did)
