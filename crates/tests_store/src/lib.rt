@@ -8,6 +8,10 @@
 #[cfg(test)]
 mod crashes;
 #[cfg(test)]
+mod deletes;
+#[cfg(test)]
+mod flushes;
+#[cfg(test)]
 mod openings;
 #[cfg(test)]
 mod stores;

@@ -5,7 +5,7 @@ use lsm_disk::{Disk, DiskError};
 use lsm_memdisk::MemDisk;
 use lsm_names::{FileName, Folder, Path, Session};
 use lsm_rows::Batch;
-use lsm_store::{OpenRefusal, Store, StoreError};
+use lsm_store::{Flushed, OpenRefusal, Store, StoreError};
 use std::alloc::Global;
 use std::process::Abort;
 
@@ -58,6 +58,14 @@ fn filled(disk: &mut MemDisk, name: &[u8], text: &[u8]) -> Result<(), DiskError>
 pub fn fill(disk: &mut MemDisk, name: &[u8], text: &[u8]) -> Result<(), Stopped> {
     match filled(disk, name, text) {
         Ok(()) => Ok(()),
+        Err(_) => Err(Stopped),
+    }
+}
+
+/// How long the file of this name is.
+pub fn length(disk: &mut MemDisk, name: &[u8]) -> Result<u64, Stopped> {
+    match disk.size(&path(name)) {
+        Ok(size) => Ok(size),
         Err(_) => Err(Stopped),
     }
 }
@@ -162,6 +170,18 @@ pub fn freeze(store: &mut Store<MemDisk>) -> Result<(), Stopped> {
         Ok(_) => Ok(()),
         Err(_) => Err(Stopped),
     }
+}
+
+/// Flushes the frozen rows, and tells how many steps came before the one that installed their table.
+pub fn flush(store: &mut Store<MemDisk>) -> Result<u32, Stopped> {
+    for more in 0..1_000 {
+        match store.flush_step() {
+            Ok(Flushed::More) => {}
+            Ok(Flushed::Installed) => return Ok(more),
+            Ok(Flushed::NoJob) | Err(_) => return Err(Stopped),
+        }
+    }
+    Err(Stopped)
 }
 
 /// Closes the store, in which all went well until now.
